@@ -1,4 +1,6 @@
 -- All definitions that compute, by one name: what says `unfolding everything` may evaluate each of them.
+use Rattle.text_rules.specs.Bytes
+use Rattle.text_rules.specs.Bytes.{kept}
 use Rattle.text_rules.specs.Classes
 use Rattle.text_rules.specs.Decimal
 use Rattle.text_rules.specs.Lines
@@ -34,6 +36,7 @@ use Rattle.gate_rules.specs.Update
 
 unfoldable pub everything : Unit {0}
 unfolding
+    Bytes.kept
     Classes.isLetter Classes.isDigit Classes.isSpace Classes.classOf
     Search.run Search.opens Search.startsWith Search.endsIn Search.has Search.countAfter Search.find
     Utf8.within Utf8.follow Utf8.wellFormedAfter Utf8.isUtf8
@@ -43,7 +46,7 @@ unfolding
     U32.u32At U32.u32Bytes
     Order.insert Order.sort
     Blank.blockLength Blank.rawLength Blank.stringLength Blank.rawLetters Blank.lineToken Blank.blockToken Blank.rawToken Blank.stringToken Blank.escapeToken Blank.charToken Blank.tokenLength Blank.put Blank.blankFrom Blank.blanked
-    BlankCall.blankNumber BlankCall.blankOutput
+    BlankCall.blankNumber BlankCall.blankOutput BlankCall.blankCall
     Brackets.depthAfter Brackets.partner
     Finding.blockEnd Finding.spanLength Finding.isFn Finding.flat Finding.angleAfter Finding.bodyAt Finding.nameStart Finding.nameEnd Finding.functionFrom Finding.functionAt
     Measures.lineAt Measures.linesOf Measures.deepest Measures.nestingOf Measures.isPair Measures.pieceLength Measures.decides Measures.cyclomaticFrom Measures.cyclomaticOf
@@ -58,7 +61,7 @@ unfolding
     Check.location Check.moreBranches Check.moreLines Check.newAndOver Check.regressions Check.gone Check.distinct Check.stale Check.listed Check.spaced Check.staleText Check.verdictText Check.listing
     Mean.tenthsOf Mean.mean Mean.meanTenths Mean.meanText
     Report.justified Report.reportRow Report.reportRows Report.worse Report.reported Report.weightOf Report.weights Report.heavier Report.heaviest Report.weightRows Report.reportText Report.sumsFrom
-    Calls.workAfter Calls.recordsAfter Calls.blankCall Calls.scanNumber Calls.scanCall Calls.checkNumber Calls.checkCall Calls.updateNumber Calls.updateCall
+    Calls.workAfter Calls.recordsAfter Calls.scanNumber Calls.scanCall Calls.checkNumber Calls.checkCall Calls.updateNumber Calls.updateCall
     ReportCall.sumsOf ReportCall.sumsAfter ReportCall.reportOf ReportCall.reportNumber ReportCall.reportCall
     Exports.countBytes Exports.exportedBlank Exports.exportNumber Exports.exportedAt Exports.exportedScan Exports.exportedCheck Exports.exportedUpdate Exports.exportedReport
     Programs.reportProgram Programs.checkProgram Programs.updateProgram Programs.updateFile
