@@ -148,8 +148,10 @@ raw-fine prev s = pick (ltb 0 (rawLetters s) && _) (λ e. letters-first s (ltb-t
   where
     k : ℕ
     k = rawLetters s
+
     n : ℕ
     n = hashes (drop k s)
+
     pick : (t : Bool) → (t ≡ true → getD s 0 0 < 128) → Fine s (elim t [ true ↦ k + n + 1 + rawLength n (drop (k + n + 1) s) | false ↦ 0 ])
     pick true h = inr (h refl, cut-after (k + n + 1) (rawLength n (drop (k + n + 1) s)) s (raw-cut n (drop (k + n + 1) s)))
     pick false h = inl refl
@@ -170,8 +172,10 @@ escape-fine s a = pick (ltb i (length w)) refl
   where
     w : List ℕ
     w = take 10 (drop 2 s)
+
     i : ℕ
     i = bytesBefore apostrophe w
+
     pick : (t : Bool) → ltb i (length w) ≡ t → Fine s (elim t [ true ↦ 3 + i | false ↦ 0 ])
     pick false e = inl refl
     pick true e =
