@@ -2,25 +2,25 @@
 -- And an update never writes more than 33,554,432 bytes.
 use Prim.Native.Nat.{ℕ, zero, suc, _≤_, _<_}
 use mathlib.Core.Path.{_≡_, refl}
-use mathlib.Core.Bool.{false}
 use mathlib.Core.List.{List}
 use native.Mathlib.Omega.{arith}
 use lib.Dec.{ltb}
 use lib.ListN.{length}
 use borrow.Author.Tests.{ltb-false}
 use Rattle.text_rules.specs.Bytes.{_when_}
-use Rattle.text_rules.specs.BytesLaws.{orElse-first, orElse-rest, when-fails}
-use Rattle.text_rules.specs.Sizes.{maxBaseline, maxTree}
+use Rattle.text_rules.specs.BytesLaws.{orElse-first, when-fails}
+use Rattle.text_rules.specs.Sizes.{maxTree}
 use Rattle.source_rules.specs.BlankCall.{blankNumber}
 use Rattle.gate_rules.specs.Baseline.{Entry, entries}
-use Rattle.gate_rules.specs.Calls.{Answer, CheckAnswer, UpdateAnswer, answerAt, blankCall, checkAnswer, checkCall, checkNumber, room, scanCall, scanNumber, updateAnswer, updateCall, updateNumber}
+use Rattle.gate_rules.specs.CallLaws.{checked-accepted, reported-accepted, scanned-accepted, updating-accepted}
+use Rattle.gate_rules.specs.Calls.{Answer, CheckAnswer, UpdateAnswer, answerAt, blankCall, checkAnswer, checkCall, checkNumber, scanCall, scanNumber, updateAnswer, updateCall, updateNumber}
 use Rattle.gate_rules.specs.Check.{stale}
 use Rattle.gate_rules.specs.Functions.{Fun, Limits}
 use Rattle.gate_rules.specs.Gate.{gate}
 use Rattle.gate_rules.specs.ListingSizes.{baseline-length, listing-length, recorded-most, regressed-most, report-length, stale-count}
 use Rattle.gate_rules.specs.Report.{FileSum}
 use Rattle.gate_rules.specs.ReportCall.{reportCall, reportNumber, reportOf}
-use Rattle.gate_rules.specs.Scan.{Accepted, Scan, functionsOf}
+use Rattle.gate_rules.specs.Scan.{functionsOf}
 use Rattle.gate_rules.specs.Update.{baselineText, recorded}
 
 -- what blank, scan and report answer
@@ -38,41 +38,6 @@ pub record UpdateFits (a : UpdateAnswer) : Type 0 where
   pub written : a .written < 4294967296
   pub functions : a .functions < 4294967296
   pub recorded : a .recorded < 4294967296
-
--- ---- a call whose number is 0: none of the tests passed
-
-accepted-at : (S : Scan) (tree records : List ℕ) → S .refusal tree ≡ 0 → ltb (room records) (length (functionsOf S tree)) ≡ false → Accepted S tree
-accepted-at S tree records r e = record { unrefused = r; few = omega (arith, ltb-false (room records) (length (functionsOf S tree)) e) }
-
-module _ (S : Scan) where
-  pub scanned-accepted : (tree work records : List ℕ) → scanNumber S tree work records ≡ 0 → Accepted S tree
-  unfolding scanNumber
-  scanned-accepted tree work records z =
-      let rest = orElse-rest (S .refusal tree) _ z in
-      accepted-at S tree records (orElse-first (S .refusal tree) _ z) (when-fails 7 _ (orElse-rest (5 when ltb (length work) (length tree)) _ rest))
-
-  module _ (L : Limits) where
-    pub checked-accepted : (tree baseline work records output : List ℕ) → checkNumber S L tree baseline work records output ≡ 0 → Accepted S tree × (length baseline ≤ 33554432)
-    unfolding checkNumber
-    checked-accepted tree baseline work records output z =
-        let rest = orElse-rest (5 when ltb (length work) (length tree)) _ (orElse-rest (S .refusal tree) _ z) in
-        let last = orElse-rest (7 when ltb maxBaseline (length baseline)) _ rest in (
-          accepted-at S tree records (orElse-first (S .refusal tree) _ z) (when-fails 7 _ (orElse-first _ _ last)),
-          ltb-false maxBaseline (length baseline) (when-fails 6 _ (orElse-first _ _ rest)),
-        )
-
-    pub updating-accepted : (tree work records output : List ℕ) → updateNumber S L tree work records output ≡ 0 → Accepted S tree
-    unfolding updateNumber
-    updating-accepted tree work records output z =
-        let rest = orElse-rest (5 when ltb (length work) (length tree)) _ (orElse-rest (S .refusal tree) _ z) in
-        accepted-at S tree records (orElse-first (S .refusal tree) _ z) (when-fails 7 _ (orElse-first _ _ rest))
-
-    pub reported-accepted : (tree work records : List ℕ) (sums : List FileSum) (output : List ℕ) → reportNumber S L tree work records sums output ≡ 0 → Accepted S tree
-    unfolding reportNumber
-    reported-accepted tree work records sums output z =
-        let rest = orElse-rest (5 when ltb (length work) (length tree)) _ (orElse-rest (S .refusal tree) _ z) in
-        let last = orElse-rest (6 when ltb (length sums) (length (S .files tree))) _ rest in
-        accepted-at S tree records (orElse-first (S .refusal tree) _ z) (when-fails 7 _ (orElse-first _ _ last))
 
 -- ---- the answers at a number
 
