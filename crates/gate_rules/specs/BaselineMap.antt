@@ -6,12 +6,12 @@ use mathlib.Core.Bool.{Bool, true, false}
 use mathlib.Core.List.{List, [], _∷_, map, List·Memᴰ·head, List·Memᴰ·tail, List·Memᴰ·cases-cons, List·Memᴰ·not-nil, Memᴰ·map, Memᴰ·cast, Memᴰ·of-map}
 use mathlib.Core.Option.{Option, none, some}
 use native.Mathlib.Omega.{arith}
-use Rattle.text_rules.specs.Bytes.{_∈_, among, before, if_then_else_, same}
-use Rattle.text_rules.specs.BytesLaws.{same-refl, same-true, true-false, whether}
 use Rattle.text_rules.specs.ByteOrder.{by-text}
+use Rattle.text_rules.specs.Bytes.{_∈_, among, before, if_then_else_, same}
+use Rattle.text_rules.specs.BytesLaws.{same-refl, true-false, whether}
 use Rattle.text_rules.specs.Order.{insert, sort}
 use Rattle.text_rules.specs.Selection.{Rising}
-use Rattle.text_rules.specs.SortLaws.{StableSort, sort-stable}
+use Rattle.text_rules.specs.SortLaws.{sort-stable}
 use Rattle.gate_rules.specs.Baseline.{Entry, entryKey, laterOf, lookup}
 use Rattle.gate_rules.specs.BaselineLaws.{lookup-found, lookup-none}
 use Rattle.gate_rules.specs.Check.{distinct}

@@ -12,11 +12,11 @@ use lib.Seq.{getD-drop, getD-take}
 use borrow.Author.Tests.{eqb-true, leb-true, ltb-true, not-false}
 use Rattle.text_rules.specs.Bytes.{_orElse_}
 use Rattle.text_rules.specs.BytesLaws.{and-left, and-right, whether}
-use Rattle.text_rules.specs.Classes.{apostrophe, backslash, hash, letterB, letterR, lf, quote, slash, space, star}
+use Rattle.text_rules.specs.Classes.{apostrophe, backslash, hash, letterB, letterR, lf, quote, slash, star}
 use Rattle.text_rules.specs.Search.{bytesBefore, opens, run}
 use Rattle.text_rules.specs.SearchLaws.{in-text}
-use Rattle.text_rules.specs.Utf8.{Follow, Range, by, follow, goOn, illFormed, isUtf8, wellFormedAfter, within}
-use Rattle.text_rules.specs.Utf8Cuts.{AsciiHead, Cut, High, ascii-first, cut-after, cut-next, cut-utf8, follow-map, none-awaited}
+use Rattle.text_rules.specs.Utf8.{Range, isUtf8, wellFormedAfter, within}
+use Rattle.text_rules.specs.Utf8Cuts.{Cut, High, ascii-first, cut-after, cut-next, cut-utf8, follow-map, none-awaited}
 use Rattle.source_rules.specs.Blank.{blankFrom, blanked, blockLength, blockToken, charToken, escapeToken, hashes, lineToken, put, rawLength, rawLetters, rawToken, stringLength, stringToken, tokenLength}
 
 -- a token of n bytes at the head is fine: it is none, or begins at an ASCII byte and ends at a place to cut

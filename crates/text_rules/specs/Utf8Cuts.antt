@@ -11,7 +11,7 @@ use lib.Seq.{drop-cons}
 use borrow.Author.Tests.{leb-true}
 use Rattle.text_rules.specs.Bytes.{All, if_then_else_}
 use Rattle.text_rules.specs.BytesLaws.{and-left, and-right, true-false}
-use Rattle.text_rules.specs.Utf8.{Follow, Range, by, follow, goOn, illFormed, isUtf8, wellFormedAfter, within, _to_}
+use Rattle.text_rules.specs.Utf8.{Follow, Range, _to_, by, follow, goOn, illFormed, isUtf8, wellFormedAfter, within}
 use Rattle.text_rules.specs.Utf8Laws.{follow-ascii}
 
 -- no range that is awaited holds an ASCII byte
