@@ -104,7 +104,7 @@ part-then (r ∷ rs) qs m n d (inl (h, e)) g = inl (h, orElse-some m n (r .numbe
 part-then (r ∷ rs) qs m n d (inr (h, f)) g = inr (h, part-then rs qs m n (d .2) f (λ k. g (h, k)))
 
 -- what remains of a table behind rows that fail
-part-fails : (rs qs : List Row) (n : ℕ) → All Fails rs → First (rs ++ qs) n → First qs n
+pub part-fails : (rs qs : List Row) (n : ℕ) → All Fails rs → First (rs ++ qs) n → First qs n
 unfolding First
 part-fails [] qs n k f = f
 part-fails (r ∷ rs) qs n k (inl (h, e)) = absurd (k .0 h)
@@ -139,11 +139,11 @@ sums-decide : (sums : List FileSum) (tree : List ℕ) → Decides (ltb (length s
 unfolding gate
 sums-decide sums tree = let e : length (gate .files tree) ≡ length (sources tree) = length-map (sources tree) fileOf in rw e (less-decides (length sums) (length (sources tree)))
 
-blank-number : (text output : List ℕ) → First (blankTable text output) (blankNumber text output)
+pub blank-number : (text output : List ℕ) → First (blankTable text output) (blankNumber text output)
 unfolding blankNumber
 blank-number text output = row-then 0 _ (less-decides 16777216 (length text)) _ _ (λ e. row-last 4 _ (less-decides (length output) (length text)))
 
-scan-number : (tree work records : List ℕ) → First (scanTable tree work records) (scanNumber gate tree work records)
+pub scan-number : (tree work records : List ℕ) → First (scanTable tree work records) (scanNumber gate tree work records)
 unfolding scanNumber gate
 scan-number tree work records =
     after-tree tree _ _
@@ -151,7 +151,7 @@ scan-number tree work records =
     (λ e. row-last 7 _ (room-decides records (length (functionsOf gate tree)))))
 
 module _ (L : Limits) where
-  check-number : (tree baseline work records output : List ℕ) → First (checkTable L tree baseline work records output) (checkNumber gate L tree baseline work records output)
+  pub check-number : (tree baseline work records output : List ℕ) → First (checkTable L tree baseline work records output) (checkNumber gate L tree baseline work records output)
   unfolding checkNumber gate
   check-number tree baseline work records output =
       after-tree tree _ _
@@ -159,14 +159,14 @@ module _ (L : Limits) where
       (λ e. row-then 6 _ (less-decides 33554432 (length baseline)) _ _
       (λ k. last-rows tree records (listing L (entries baseline) (functionsOf gate tree)) output)))
 
-  update-number : (tree work records output : List ℕ) → First (updateTable L tree work records output) (updateNumber gate L tree work records output)
+  pub update-number : (tree work records output : List ℕ) → First (updateTable L tree work records output) (updateNumber gate L tree work records output)
   unfolding updateNumber gate
   update-number tree work records output =
       after-tree tree _ _
       (λ h. row-then 4 _ (less-decides (length work) (length tree)) _ _
       (λ e. last-rows tree records (baselineText L (functionsOf gate tree)) output))
 
-  report-number : (tree work records : List ℕ) (sums : List FileSum) (output : List ℕ) → First (reportTable L tree work records sums output) (reportNumber gate L tree work records sums output)
+  pub report-number : (tree work records : List ℕ) (sums : List FileSum) (output : List ℕ) → First (reportTable L tree work records sums output) (reportNumber gate L tree work records sums output)
   unfolding reportNumber gate
   report-number tree work records sums output =
       after-tree tree _ _
