@@ -215,7 +215,7 @@ output-leaves-as : (number : ℕ) (text text′ output : List ℕ) → (number �
 output-leaves-as zero text text′ output h = record { refused-output = λ l. absurd (omega arith); written-output = λ e. ap (λ t. overwritten t output) (h refl) }
 output-leaves-as (suc n) text text′ output h = record { refused-output = λ l. refl; written-output = λ e. absurd (omega arith) }
 
-output-leaves : (number : ℕ) (text output : List ℕ) → OutputLeft text output number (outputAfter number text output)
+pub output-leaves : (number : ℕ) (text output : List ℕ) → OutputLeft text output number (outputAfter number text output)
 output-leaves number text output = output-leaves-as number text text output (λ e. refl)
 
 unsummed : (n : ℕ) → 1 ≤ n → n ≤ 8 → (eqb n 0 || eqb n 9) ≡ false

@@ -81,6 +81,13 @@ unfolding Different
 climbing-different m [] c = tt
 climbing-different m (r ∷ rs) c = (λ e. omega (arith, c .0), all-above (r .number) (r .number) rs (omega arith) (c .1), climbing-different (r .number) rs (c .1))
 
+-- no row's number is over a bound
+pub at-most : (m n : ℕ) (rows : List Row) → All (λ r. r .number ≤ m) rows → First rows n → n ≤ m
+unfolding First
+at-most m n [] h f = omega arith
+at-most m n (r ∷ rs) h (inl (k, e)) = omega (arith, h .0)
+at-most m n (r ∷ rs) h (inr (k, f)) = at-most m n rs (h .1) f
+
 -- a call's expression of refusals, one after another: a test that decides the row's condition
 row-then : {P : Type 0} (k : ℕ) (b : Bool) → Decides b P → (rs : List Row) (m : ℕ) → (b ≡ false → First rs m) → First (suc k if P ∷ rs) (suc k when b orElse m)
 unfolding First
@@ -244,6 +251,22 @@ own-suffices L tree h few =
     let size : length (ownTable gate L) ≡ 1024 = length-replicate {A = FileSum} 1024 (record { file = 0; sum = 0 }) in
     h .1 .0 (λ l. omega (arith, files-count tree, l .count-small))
 
+module _ (L : Limits) where
+  -- 6 does not apply where the table of sums has an entry for each file
+  report-without-six : (tree work records : List ℕ) (sums : List FileSum) (output : List ℕ) → (All Fails (treeRows tree) → FewSums sums tree → ⊥)
+      → First (treeRows tree ++ (5 if TooShort work tree ∷ 8 if ManyFunctions records tree ∷ 9 if TooShort output (reportOf gate L tree) ∷ []))
+      (reportNumber gate L tree work records sums output)
+  report-without-six tree work records sums output few =
+      rest-changed (treeRows tree) _ _ _ (λ h. without _ _ _ _ (few h)) (report-number L tree work records sums output)
+
+  -- and report's number does not depend on the table
+  pub report-any-sums : (tree work records : List ℕ) (sums : List FileSum) (output : List ℕ) → length (sources tree) ≤ length sums
+      → reportNumber gate L tree work records (ownTable gate L) output ≡ reportNumber gate L tree work records sums output
+  report-any-sums tree work records sums output enough =
+      first-unique _ _ _
+      (report-without-six tree work records (ownTable gate L) output (own-suffices L tree))
+      (report-without-six tree work records sums output (λ h few. omega arith))
+
 pub exported-blank-first : (text output : List ℕ) → First (blankTable text output) (exportedBlank text output .number)
 unfolding exportedBlank
 exported-blank-first text output = blank-number text output
@@ -267,8 +290,7 @@ module _ (L : Limits) where
       → First (exportedReportTable L tree work records output counts) (exportedReport gate L tree work records output counts .number)
   unfolding exportedReport exportedAt
   exported-report-first tree work records output counts =
-      export-first 8 tree work counts _ _
-      (rest-changed (treeRows tree) _ _ _ (λ h. without _ _ _ _ (own-suffices L tree h)) (report-number L tree work records (ownTable gate L) output))
+      export-first 8 tree work counts _ _ (report-without-six L tree work records (ownTable gate L) output (own-suffices L tree))
 
 -- THE NUMBERS OF EVERY TABLE ARE DIFFERENT
 
