@@ -12,7 +12,6 @@ use borrow.Author.Tests.{eq-eqb, eqb-false, eqb-true, le-leb, lt-ltb, ltb-false,
 use Rattle.text_rules.specs.Bytes.{All, Lacks}
 use Rattle.text_rules.specs.BytesLaws.{All-map, and-left, and-right, whether}
 use Rattle.text_rules.specs.Search.{has}
-use Rattle.text_rules.specs.Sizes.{maxFiles, maxPath}
 use Rattle.text_rules.specs.U32.{u32At}
 use Rattle.text_rules.specs.Utf8.{isUtf8}
 use Rattle.gate_rules.specs.Calls.{room}

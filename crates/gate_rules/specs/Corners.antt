@@ -6,20 +6,20 @@ use mathlib.Core.Option.{some}
 use lib.ListN.{replicate}
 use Rattle.text_rules.specs.Bytes.{ascii}
 use Rattle.text_rules.specs.Search.{run}
-use Rattle.source_rules.specs.TextScan.{functions}
 use Rattle.source_rules.specs.TextCorners.{TextCorners, text-corners}
+use Rattle.source_rules.specs.TextScan.{functions}
 use Rattle.gate_rules.specs.Baseline.{Entry, entries, lookup}
+use Rattle.gate_rules.specs.Calls.{updateAnswer}
 use Rattle.gate_rules.specs.Check.{listing, stale}
 use Rattle.gate_rules.specs.Computes.{everything}
-use Rattle.gate_rules.specs.Functions.{Fun, gateLimits}
-use Rattle.gate_rules.specs.Calls.{updateAnswer}
 use Rattle.gate_rules.specs.Exports.{exportedCheck}
+use Rattle.gate_rules.specs.Functions.{Fun, gateLimits}
 use Rattle.gate_rules.specs.Gate.{functionsOfFiles, gate}
 use Rattle.gate_rules.specs.Mean.{meanText}
 use Rattle.gate_rules.specs.Pack.{InputFile, packed}
+use Rattle.gate_rules.specs.Report.{heaviest, reported, weights}
 use Rattle.gate_rules.specs.Scan.{File}
 use Rattle.gate_rules.specs.Tree.{treeRefusal}
-use Rattle.gate_rules.specs.Report.{heaviest, reported, weights}
 use Rattle.gate_rules.specs.Update.{baselineText, recorded}
 
 abbrev pub fun : (path name : List ℕ) (cyclomatic nesting : ℕ) → Fun

@@ -9,16 +9,17 @@ use lib.Dec.{eqb}
 use lib.ListN.{length, take, drop, getD, length-append, length-drop, length-map, length-take, List·getD-append}
 use lib.Seq.{getD-append-add, getD-drop, getD-take}
 use borrow.Author.Tests.{ne-eqb}
+use Rattle.text_rules.specs.Answer.{answerAt}
 use Rattle.text_rules.specs.Bytes.{All, joined, overwritten}
 use Rattle.text_rules.specs.BytesLaws.{All-append, All-map}
 use Rattle.text_rules.specs.U32.{u32Bytes}
 use Rattle.source_rules.specs.Blank.{blanked}
-use Rattle.source_rules.specs.BlankCall.{blankNumber, blankOutput}
+use Rattle.source_rules.specs.BlankCall.{blankCall, blankNumber, blankOutput}
 use Rattle.source_rules.specs.BlankLaws.{blanked-length}
 use Rattle.source_rules.specs.TextScan.{TextFun, functions}
-use Rattle.gate_rules.specs.BufferLaws.{blank-length, put-length}
 use Rattle.gate_rules.specs.Baseline.{Entry, entries}
-use Rattle.gate_rules.specs.Calls.{answerAt, blankCall, checkAnswer, checkCall, checkNumber, isScanned, outputAfter, recordsAfter, room, scanCall, scanNumber, updateAnswer, updateCall, updateNumber, workAfter}
+use Rattle.gate_rules.specs.BufferLaws.{blank-length, put-length}
+use Rattle.gate_rules.specs.Calls.{checkAnswer, checkCall, checkNumber, isScanned, outputAfter, recordsAfter, room, scanCall, scanNumber, updateAnswer, updateCall, updateNumber, workAfter}
 use Rattle.gate_rules.specs.Check.{listing, regressions, stale}
 use Rattle.gate_rules.specs.ConditionLaws.{files-count}
 use Rattle.gate_rules.specs.Exports.{countBytes, exportedAt, exportedBlank, exportedCheck, exportedReport, exportedScan, exportedUpdate}

@@ -10,10 +10,11 @@ use native.Mathlib.Omega.{arith}
 use lib.Dec.{ltb}
 use lib.ListN.{length, length-map, length-replicate}
 use borrow.Author.Tests.{not-false}
+use Rattle.text_rules.specs.Answer.{answerAt}
 use Rattle.text_rules.specs.Bytes.{All, _orElse_, _when_}
-use Rattle.source_rules.specs.BlankCall.{blankNumber}
+use Rattle.source_rules.specs.BlankCall.{blankCall, blankNumber}
 use Rattle.gate_rules.specs.Baseline.{Entry, entries}
-use Rattle.gate_rules.specs.Calls.{answerAt, blankCall, checkAnswer, checkCall, checkNumber, room, scanCall, scanNumber, updateAnswer, updateCall, updateNumber}
+use Rattle.gate_rules.specs.Calls.{checkAnswer, checkCall, checkNumber, room, scanCall, scanNumber, updateAnswer, updateCall, updateNumber}
 use Rattle.gate_rules.specs.Check.{listing}
 use Rattle.gate_rules.specs.ConditionLaws.{Decides, files-count, layout-spelled, less-decides, not-decides, paths-spelled, room-decides, texts-spelled}
 use Rattle.gate_rules.specs.Exports.{exportNumber, exportedAt, exportedBlank, exportedCheck, exportedReport, exportedScan, exportedUpdate, ownTable}
@@ -22,8 +23,8 @@ use Rattle.gate_rules.specs.Gate.{fileOf, gate}
 use Rattle.gate_rules.specs.Report.{FileSum}
 use Rattle.gate_rules.specs.ReportCall.{reportCall, reportNumber, reportOf}
 use Rattle.gate_rules.specs.Scan.{Accepted, functionsOf}
-use Rattle.gate_rules.specs.Table.{BadPath, BadText, Different, Fails, FewCounts, FewSums, First, LongBaseline, ManyFunctions, Row, TooLong, TooShort, Unlaid, _if_, blankTable, checkTable, exportedCheckTable, exportedReportTable, exportedScanTable, exportedUpdateTable, reportTable, scanTable, treeRows, updateTable}
-use Rattle.gate_rules.specs.Tree.{isLaidOut, pathsRise, sources, textsGood, treeRefusal}
+use Rattle.gate_rules.specs.Table.{BadPath, BadText, Different, Fails, FewCounts, FewSums, First, ManyFunctions, Row, TooLong, TooShort, Unlaid, _if_, blankTable, checkTable, exportedCheckTable, exportedReportTable, exportedScanTable, exportedUpdateTable, reportTable, scanTable, treeRows, updateTable}
+use Rattle.gate_rules.specs.Tree.{sources, treeRefusal}
 use Rattle.gate_rules.specs.Update.{baselineText}
 
 -- ANY TABLE

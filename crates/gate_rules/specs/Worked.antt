@@ -6,6 +6,7 @@ use mathlib.Core.Bool.{true}
 use mathlib.Core.List.{List, [], _∷_, List·Memᴰ·head, List·Memᴰ·tail}
 use lib.ListN.{replicate}
 use Rattle.text_rules.specs.Bytes.{_∈_, ascii}
+use Rattle.text_rules.specs.Search.{has}
 use Rattle.gate_rules.specs.Baseline.{entries}
 use Rattle.gate_rules.specs.Calls.{Updated, updateCall}
 use Rattle.gate_rules.specs.Check.{regressions}

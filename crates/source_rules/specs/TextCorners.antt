@@ -7,7 +7,7 @@ use Rattle.source_rules.specs.Blank.{blanked}
 use Rattle.source_rules.specs.Measures.{cyclomaticOf, nestingOf}
 use Rattle.source_rules.specs.Parameters.{paramsOf}
 use Rattle.source_rules.specs.TextComputes.{allOfTexts}
-use Rattle.source_rules.specs.TextScan.{TextFun, functions}
+use Rattle.source_rules.specs.TextScan.{functions}
 
 -- the names of a text's functions
 abbrev pub names : List ℕ → List (List ℕ)
