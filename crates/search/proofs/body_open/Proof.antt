@@ -1,52 +1,41 @@
+-- `search::body_open` meets its contract: at each turn the brace sought from `at` on, at the depths reached, is the one sought from the start
+-- on at depth 0. The three counts are at most the place, so that they can be counted.
+use Prim.Native.Nat.{_≤_, _<_, _-_, _+_}
+use mathlib.Core.Path.{_≡_, refl, ap, sym, _∙_}
+use mathlib.Core.Logic.{⊎-elim}
+use native.Mathlib.Omega.{arith}
+use borrow.Author.Needs.{needs}
+use borrow.Author.Tests.{eq-eqb, ne-eqb}
+use lib.ListN.{length, drop}
+use Rattle.source_rules.specs.Finding.{bodyAt}
+use Rattle.source_rules.specs.WalkSteps.{body-end, body-step}
 use Rattle.search.proofs.body_open.Statement.{statement}
 use Rattle.search.proofs.body_open.Tie as tie
-use Rattle.search.proofs.body_open.Reads as reads
-use Rattle.search.proofs.body_open.Lts as lts
-use Rattle.search.proofs.angle_after.Reads as angle-after-reads
-use Rattle.search.proofs.count_after.Reads as count-after-reads
-use Rattle.search.proofs.is_flat.Reads as is-flat-reads
 
 abbrev Inv-loop : tie.InvT-loop
-Inv-loop s from angle₀ opened₀ closed₀ at₀ angle opened closed at = ?
+Inv-loop s from angle₀ opened₀ closed₀ at₀ angle opened closed at =
+    (angle ≤ at) × (opened ≤ at) × (closed ≤ at) × (bodyAt angle opened closed at (drop at s) ≡ bodyAt 0 0 0 from (drop from s))
 
 abbrev μ-loop : tie.MeasureT-loop
-μ-loop s from angle₀ opened₀ closed₀ at₀ angle opened closed at = ?
-
-loop-holds : tie.Need-loop-holds Inv-loop μ-loop
-loop-holds c = ?
-
-shared-slice-read-b : tie.Need-shared-slice-read-b Inv-loop μ-loop
-shared-slice-read-b c = ?
-
-is-flat-requires : tie.Need-is-flat-requires Inv-loop μ-loop
-is-flat-requires c κs = ?
+μ-loop s from angle₀ opened₀ closed₀ at₀ angle opened closed at = length s - at
 
 returns : tie.Need-returns Inv-loop μ-loop
-returns c = ?
+returns c =
+    let f = c .before .before in
+    let l = f .before .before .before in
+    sym (body-step (l .before .before .args .s .now) (l .loop .at) (omega arith) (l .loop .angle) (l .loop .opened) (l .loop .closed)
+      ∙ rw (sym (f .is-flat .ensures) ∙ c .before .if1 .taken, eq-eqb _ 123 (c .if2 .taken))) ∙ l .loop .inv .1 .1 .1
 
 returns-2 : tie.Need-returns-2 Inv-loop μ-loop
 returns-2 c = ?
-
-angle-after-requires : tie.Need-angle-after-requires Inv-loop μ-loop
-angle-after-requires c κs = ?
-
-count-after-requires : tie.Need-count-after-requires Inv-loop μ-loop
-count-after-requires c κs = ?
-
-count-after-requires-2 : tie.Need-count-after-requires-2 Inv-loop μ-loop
-count-after-requires-2 c κs = ?
-
-add-at : tie.Need-add-at Inv-loop μ-loop
-add-at c = ?
-
-loop-less : tie.Need-loop-less Inv-loop μ-loop
-loop-less c = ?
 
 loop-again : tie.Need-loop-again Inv-loop μ-loop
 loop-again c = ?
 
 returns-3 : tie.Need-returns-3 Inv-loop μ-loop
-returns-3 c = ?
+returns-3 c =
+    let l = c .before in
+    sym (body-end (l .before .before .args .s .now) (l .loop .at) (omega arith) (l .loop .angle) (l .loop .opened) (l .loop .closed)) ∙ l .loop .inv .1 .1 .1
 
 pub body-open-spec : {M : Type 1} → statement M
 body-open-spec =
@@ -54,15 +43,15 @@ body-open-spec =
     (tie.spec
     Inv-loop
     μ-loop
-    loop-holds
-    shared-slice-read-b
-    is-flat-requires
+    (λ c. (omega arith, omega arith, omega arith, refl))
+    (λ c. omega arith)
+    (λ c κs. search needs)
     returns
     returns-2
-    angle-after-requires
-    count-after-requires
-    count-after-requires-2
-    add-at
-    loop-less
+    (λ c κs. omega arith)
+    (λ c κs. omega arith)
+    (λ c κs. omega arith)
+    (λ c. omega arith)
+    (λ c. omega arith)
     loop-again
     returns-3)

@@ -1,55 +1,54 @@
+-- `search::matching_delim` meets its contract: at each turn the partner sought from `at` on, at the depth reached, is the one sought from the
+-- start on at depth 0. The depth is at most the place, so that it can be counted.
+use Prim.Native.Nat.{_≤_, _-_, _+_}
+use mathlib.Core.Path.{_≡_, refl, ap, sym, _∙_}
+use mathlib.Core.Option.{some}
+use native.Mathlib.Omega.{arith}
+use lib.ListN.{length, drop}
+use Rattle.source_rules.specs.Brackets.{partner}
+use Rattle.source_rules.specs.WalkSteps.{partner-close, partner-end, partner-found, partner-open, partner-other}
 use Rattle.search.proofs.matching_delim.Statement.{statement}
 use Rattle.search.proofs.matching_delim.Tie as tie
-use Rattle.search.proofs.matching_delim.Reads as reads
-use Rattle.search.proofs.matching_delim.Lts as lts
 
 abbrev Inv-loop : tie.InvT-loop
-Inv-loop s opening closing from at₀ depth₀ at depth = ?
+Inv-loop s opening closing from at₀ depth₀ at depth = (depth ≤ at) × (partner opening closing depth at (drop at s) ≡ partner opening closing 0 from (drop from s))
 
 abbrev μ-loop : tie.MeasureT-loop
-μ-loop s opening closing from at₀ depth₀ at depth = ?
-
-loop-holds : tie.Need-loop-holds Inv-loop μ-loop
-loop-holds c = ?
-
-shared-slice-read-b : tie.Need-shared-slice-read-b Inv-loop μ-loop
-shared-slice-read-b c = ?
-
-add-at : tie.Need-add-at Inv-loop μ-loop
-add-at c = ?
-
-add-depth : tie.Need-add-depth Inv-loop μ-loop
-add-depth c = ?
-
-loop-less : tie.Need-loop-less Inv-loop μ-loop
-loop-less c = ?
+μ-loop s opening closing from at₀ depth₀ at depth = length s - at
 
 loop-again : tie.Need-loop-again Inv-loop μ-loop
-loop-again c = ?
-
-sub-t14 : tie.Need-sub-t14 Inv-loop μ-loop
-sub-t14 c = ?
+loop-again c =
+    let l = c .before .before .before in
+    let a = l .before .args in
+    (omega arith, sym (partner-open (a .s .now) (l .loop .at) (omega arith) (a .opening) (a .closing) (l .loop .depth) (l .before .pre) (c .if1 .taken)) ∙ l .loop .inv .1)
 
 returns : tie.Need-returns Inv-loop μ-loop
-returns c = ?
-
-sub-depth : tie.Need-sub-depth Inv-loop μ-loop
-sub-depth c = ?
-
-loop-less-2 : tie.Need-loop-less-2 Inv-loop μ-loop
-loop-less-2 c = ?
+returns c =
+    let l = c .before .before .before .before .before in
+    let a = l .before .args in
+    let e : l .loop .at + 1 - 1 ≡ l .loop .at = omega arith in
+    ap some e ∙ sym (partner-found (a .s .now) (l .loop .at) (omega arith) (a .opening) (a .closing) (l .loop .depth) (c .before .if2 .taken) (c .if3 .taken)) ∙ l .loop .inv .1
 
 loop-again-2 : tie.Need-loop-again-2 Inv-loop μ-loop
-loop-again-2 c = ?
-
-loop-less-3 : tie.Need-loop-less-3 Inv-loop μ-loop
-loop-less-3 c = ?
+loop-again-2 c =
+    let l = c .before .before .before .before .before in
+    let a = l .before .args in
+    (
+      omega arith,
+      sym (partner-close (a .s .now) (l .loop .at) (omega arith) (a .opening) (a .closing) (l .loop .depth) (l .before .pre) (c .before .if2 .taken) (c .if3 .left)) ∙ l .loop .inv .1,
+    )
 
 loop-again-3 : tie.Need-loop-again-3 Inv-loop μ-loop
-loop-again-3 c = ?
+loop-again-3 c =
+    let l = c .before .before .before .before in
+    let a = l .before .args in
+    (omega arith, sym (partner-other (a .s .now) (l .loop .at) (omega arith) (a .opening) (a .closing) (l .loop .depth) (c .before .if1 .left) (c .if2 .left)) ∙ l .loop .inv .1)
 
 returns-2 : tie.Need-returns-2 Inv-loop μ-loop
-returns-2 c = ?
+returns-2 c =
+    let l = c .before in
+    let a = l .before .args in
+    sym (partner-end (a .s .now) (l .loop .at) (omega arith) (a .opening) (a .closing) (l .loop .depth)) ∙ l .loop .inv .1
 
 pub matching-delim-spec : {M : Type 1} → statement M
 matching-delim-spec =
@@ -57,17 +56,17 @@ matching-delim-spec =
     (tie.spec
     Inv-loop
     μ-loop
-    loop-holds
-    shared-slice-read-b
-    add-at
-    add-depth
-    loop-less
+    (λ c. (omega arith, refl))
+    (λ c. omega arith)
+    (λ c. omega arith)
+    (λ c. omega arith)
+    (λ c. omega arith)
     loop-again
-    sub-t14
+    (λ c. omega arith)
     returns
-    sub-depth
-    loop-less-2
+    (λ c. omega arith)
+    (λ c. omega arith)
     loop-again-2
-    loop-less-3
+    (λ c. omega arith)
     loop-again-3
     returns-2)
