@@ -293,6 +293,15 @@ fn after(tree: &Tree, lent: &Lent, number: usize, listing: &[u8]) -> Lent {
 struct Random(u64);
 
 impl Random {
+    /// Each case has its own numbers, so that it is the same whatever the cases before it are.
+    fn of(seed: u64, kind: u64, case: usize) -> Random {
+        let mut r = Random(seed);
+        for n in [kind, case as u64] {
+            r.0 = r.next() ^ n;
+        }
+        r
+    }
+
     fn next(&mut self) -> u64 {
         self.0 = self.0.wrapping_add(0x9e37_79b9_7f4a_7c15);
         let mut z = self.0;
@@ -378,7 +387,7 @@ const NEAR_SPACES: &[&str] = &[
 #[rustfmt::skip]
 const SPANS: &[&str] = &[
     "#[cfg(test)]", "#[cfg(test)] mod t {", "#[cfg(test)]fn t(){}", "#[cfg(test)]}", "#[cfg(test)", "##[cfg(test)]{",
-    "#[cfg(test)]#[cfg(test)]{}", "#[cfg (test)]{", "#[cfg(test)] use a;",
+    "#[cfg(test)]#[cfg(test)]{}", "#[cfg (test)]{", "#[cfg(test)] use a;", "#[cfg(test)]{#[cfg(test)]}", "#[cfg(test)]{{}#[cfg(test)]fn t(){}}",
 ];
 const NAMES: &[&str] = &["a", "b", "g", "x1", "_", "_a", "1", "2b", "if", "fn", "self", "main", "long_name_0"];
 #[rustfmt::skip]
@@ -539,6 +548,9 @@ fn text(r: &mut Random, source: &str, most: usize) -> String {
             for _ in 0..r.between(1, 4) {
                 let before = if r.chance(40) { r.below(4) } else { 0 };
                 text.push_str(&soup(r, before));
+                if r.chance(8) {
+                    text.push_str(r.pick(SPANS));
+                }
                 text.push_str(r.pick(&["", "", " ", "\n", ";"]));
                 text.push_str(&function(r));
             }
@@ -615,6 +627,16 @@ fn ordered(files: Vec<Plain>) -> Vec<Plain> {
 }
 
 fn files(r: &mut Random, source: &str) -> Vec<Plain> {
+    if r.chance(15) {
+        // a tree's order of paths is not the order of their bytes, and functions of equal weight show it
+        let paths = ["a/b", "a.b", "a b", "a-b", "a\u{1}b", "a", "a/", "ab", "a/.", "a.rs", "a/a.rs"];
+        let mut made = Vec::new();
+        for _ in 0..r.between(2, 5) {
+            let text = format!("{}{}", limit_function(r), limit_function(r));
+            made.push((r.pick(&paths).as_bytes().to_vec(), text.into_bytes()));
+        }
+        return ordered(made);
+    }
     let (count, most) = match r.below(20) {
         0 => (0, 0),
         1..=13 => (r.between(1, 4), 300),
@@ -741,7 +763,9 @@ fn baseline_line(r: &mut Random, files: &[Plain], funs: &[Fun]) -> Vec<u8> {
         // a function of the tree, with its numbers, or one more or less, or any
         let f = &funs[r.below(funs.len())];
         let near = |r: &mut Random, n: usize| {
-            if r.chance(15) {
+            if r.chance(10) {
+                r.pick(&["4294967295", "4294967296", "18446744073709551615", "18446744073709551616"]).to_string()
+            } else if r.chance(10) {
                 r.pick(NUMBERS).to_string()
             } else {
                 (n + r.below(3)).saturating_sub(1).to_string()
@@ -754,8 +778,8 @@ fn baseline_line(r: &mut Random, files: &[Plain], funs: &[Fun]) -> Vec<u8> {
         0 => b"# a".to_vec(),
         1 => path(r),
         // two paths whose keys stand the other way round than the paths do
-        2 => b"a\x01".to_vec(),
-        3 => b"a".to_vec(),
+        2 | 3 => b"a\x01".to_vec(),
+        4 => b"a".to_vec(),
         _ if !files.is_empty() => files[r.below(files.len())].0.clone(),
         _ => b"a".to_vec(),
     };
@@ -828,7 +852,7 @@ fn baseline(r: &mut Random, files: &[Plain], source: &str) -> Vec<u8> {
             text[at + n] = b'0' + r.below(10) as u8;
         }
     }
-    if r.chance(6) {
+    if r.chance(8) {
         let bytes = NOT_UTF8[r.below(NOT_UTF8.len())];
         insert(r, &mut text, bytes);
     }
@@ -838,7 +862,7 @@ fn baseline(r: &mut Random, files: &[Plain], source: &str) -> Vec<u8> {
 fn tree_bytes(r: &mut Random, source: &str) -> (Vec<u8>, Vec<u8>) {
     let mut files = files(r, source);
     let baseline = baseline(r, &files, source);
-    if r.chance(18) {
+    if r.chance(20) {
         for _ in 0..r.between(1, 2) {
             damage_files(r, &mut files);
         }
@@ -1106,7 +1130,7 @@ fn main() {
     };
     let read = |path: &str| std::fs::read_to_string(path).expect("a file that can be read");
     let source = read(source);
-    let mut r = Random(seed.parse().expect("SEED is a number"));
+    let seed: u64 = seed.parse().expect("SEED is a number");
     let texts: usize = texts.parse().expect("TEXTS is a number");
     let trees: usize = trees.parse().expect("TREES is a number");
     let mut modules = Modules {
@@ -1120,6 +1144,7 @@ fn main() {
 
     let mut with_function = 0;
     for k in 1..=texts {
+        let mut r = Random::of(seed, 1, k);
         // at least half of the texts have a function
         let wanted = 2 * with_function < k;
         let (text, found) = loop {
@@ -1138,6 +1163,7 @@ fn main() {
 
     let mut tally = Tally::new();
     for k in 1..=trees {
+        let mut r = Random::of(seed, 2, k);
         let (tree, baseline) = loop {
             let (bytes, baseline) = tree_bytes(&mut r, &source);
             // long ones would take most of the time
