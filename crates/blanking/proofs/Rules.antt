@@ -152,7 +152,7 @@ module _ (s : List ℕ) (i : ℕ) where
         let h = head-at s i ∙ e in
         rw (raw-other p here (λ x. omega arith) (λ x. omega arith), string-other here (λ x. omega arith), char-other here (λ x. omega arith), orElse-zero (blockToken here))
 
-    pub token-letter : (getD s i 0 ≡ letterR) ⊎ (getD s i 0 ≡ letterB) → tokenLength p here ≡ rawToken p here
+    pub token-letter : (getD s i 0 ≡ letterB) ⊎ (getD s i 0 ≡ letterR) → tokenLength p here ≡ rawToken p here
     unfolding tokenLength
     token-letter e =
         let h = head-at s i in
@@ -172,8 +172,8 @@ module _ (s : List ℕ) (i : ℕ) where
         rw (line-other here (λ x. omega arith), block-other here (λ x. omega arith), raw-other p here (λ x. omega arith) (λ x. omega arith), string-other here (λ x. omega arith))
 
     -- no other byte begins a token
-    pub token-other : getD s i 0 ≢ slash → getD s i 0 ≢ letterR → getD s i 0 ≢ letterB → getD s i 0 ≢ quote → getD s i 0 ≢ apostrophe → tokenLength p here ≡ 0
+    pub token-other : getD s i 0 ≢ slash → getD s i 0 ≢ letterB → getD s i 0 ≢ letterR → getD s i 0 ≢ quote → getD s i 0 ≢ apostrophe → tokenLength p here ≡ 0
     unfolding tokenLength
     token-other a b c d e =
         let h = sym (head-at s i) in
-        rw (line-other here (λ x. a (h ∙ x)), block-other here (λ x. a (h ∙ x)), raw-other p here (λ x. b (h ∙ x)) (λ x. c (h ∙ x)), string-other here (λ x. d (h ∙ x)), char-other here (λ x. e (h ∙ x)))
+        rw (line-other here (λ x. a (h ∙ x)), block-other here (λ x. a (h ∙ x)), raw-other p here (λ x. c (h ∙ x)) (λ x. b (h ∙ x)), string-other here (λ x. d (h ∙ x)), char-other here (λ x. e (h ∙ x)))

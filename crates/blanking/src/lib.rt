@@ -253,7 +253,7 @@ impl Cursor {
         let at = self.at;
         match s[at] {
             SLASH => self.comment(s),
-            b'r' | b'b' => self.raw_string(s),
+            b'b' | b'r' => self.raw_string(s),
             QUOTE => Cursor { at: at + 1 }.string_body(s),
             APOSTROPHE => self.char_literal(s),
             _ => self,

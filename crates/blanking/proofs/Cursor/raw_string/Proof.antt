@@ -1,0 +1,98 @@
+-- `blanking::Cursor::raw_string` meets its contract: the letters, the hashes and the quote stand one after another, so the places found are those of the definition's lengths.
+use mathlib.Core.Path.{_∙_, ap, sym}
+use mathlib.Core.List.{_∷_}
+use Prim.Native.Nat.{ℕ}
+use native.Mathlib.Omega.{arith}
+use lib.ListN.{drop, getD}
+use Rattle.text_rules.specs.Classes.{isWord}
+use Rattle.text_rules.specs.SearchLaws.{in-text}
+use Rattle.blanking.proofs.Rules.{raw-after-word, raw-fits, raw-no-letters, raw-no-quote}
+use borrow.Author.Needs.{needs}
+use Rattle.blanking.proofs.Cursor.raw_string.Statement.{statement}
+use Rattle.blanking.proofs.Cursor.raw_string.Tie as tie
+use Rattle.blanking.proofs.Cursor.raw_string.Reads as reads
+use Rattle.blanking.proofs.Cursor.raw_string.Lts as lts
+use Rattle.blanking.proofs.Cursor.hashes.Reads as hashes-reads
+use Rattle.blanking.proofs.Cursor.raw_body.Reads as raw-body-reads
+use Rattle.blanking.proofs.Cursor.raw_letters.Reads as raw-letters-reads
+use Rattle.blanking.proofs.byte.Reads as byte-reads
+use Rattle.blanking.proofs.byte_before.Reads as byte-before-reads
+use Rattle.classes.proofs.is_word.Reads as is-word-reads
+
+byte-before-requires : tie.Need-byte-before-requires
+byte-before-requires c κs = search needs
+
+is-word-requires : tie.Need-is-word-requires
+is-word-requires c κs = search needs
+
+returns : tie.Need-returns
+returns c = let w = c .before in
+    let a = w .before .before .before .args in
+    omega (arith, raw-after-word (getD (0 ∷ a .s .now) (a .self .at) 0) (drop (a .self .at) (a .s .now)) (sym (ap (λ (k : ℕ). isWord k) (w .before .byte-before .ensures)) ∙ sym (w .is-word .ensures) ∙ c .if1 .taken))
+
+raw-letters-requires : tie.Need-raw-letters-requires
+raw-letters-requires c κs = search needs
+
+returns-2 : tie.Need-returns-2
+returns-2 c = let l = c .before in
+    let a = l .before .before .before .before .before .args in
+    omega (arith, raw-no-letters (a .s .now) (a .self .at) (getD (0 ∷ a .s .now) (a .self .at) 0) (l .raw-letters .result .at) (l .raw-letters .ensures .place) (c .if2 .taken))
+
+hashes-requires : tie.Need-hashes-requires
+hashes-requires c κs = search needs
+
+byte-requires : tie.Need-byte-requires
+byte-requires c κs = search needs
+
+add-t11 : tie.Need-add-t11
+add-t11 c = search needs
+
+sub-raw-body : tie.Need-sub-raw-body
+sub-raw-body c = search needs
+
+raw-body-requires : tie.Need-raw-body-requires
+raw-body-requires c κs = let h = c .before .before in
+    let a = h .before .before .before .before .before .before .before .args in
+    let e = sym (c .before .byte .ensures) ∙ c .if3 .taken in
+    omega (arith, in-text (a .s .now) (h .hashes .result .at) (omega arith))
+
+returns-3 : tie.Need-returns-3
+returns-3 c = let h = c .before .before .before in
+    let l = h .before .before in
+    let w = l .before .before in
+    let a = w .before .before .before .args in
+    omega (
+      arith,
+      raw-fits (a .s .now) (a .self .at) (getD (0 ∷ a .s .now) (a .self .at) 0) (l .raw-letters .result .at) (l .raw-letters .ensures .place) (h .before .if2 .left)
+          (sym (ap (λ (k : ℕ). isWord k) (w .before .byte-before .ensures)) ∙ sym (w .is-word .ensures) ∙ l .before .if1 .left)
+          (h .hashes .result .at) (h .hashes .ensures .place) (sym (c .before .before .byte .ensures) ∙ c .before .if3 .taken),
+    )
+
+returns-4 : tie.Need-returns-4
+returns-4 c = let h = c .before .before in
+    let l = h .before .before in
+    let w = l .before .before in
+    let a = w .before .before .before .args in
+    omega (
+      arith,
+      raw-no-quote (a .s .now) (a .self .at) (getD (0 ∷ a .s .now) (a .self .at) 0) (l .raw-letters .result .at) (l .raw-letters .ensures .place) (h .before .if2 .left)
+          (sym (ap (λ (k : ℕ). isWord k) (w .before .byte-before .ensures)) ∙ sym (w .is-word .ensures) ∙ l .before .if1 .left)
+          (h .hashes .result .at) (h .hashes .ensures .place) (λ x. c .if3 .left (c .before .byte .ensures ∙ x)),
+    )
+
+pub raw-string-spec : {M : Type 1} → statement M
+raw-string-spec =
+    tie.close
+    (tie.spec
+    byte-before-requires
+    is-word-requires
+    returns
+    raw-letters-requires
+    returns-2
+    hashes-requires
+    byte-requires
+    add-t11
+    sub-raw-body
+    raw-body-requires
+    returns-3
+    returns-4)
