@@ -8,9 +8,6 @@ use Rattle.blanking.specs.Contracts.{finished}
 use Rattle.blanking.proofs.Whole.{ended, started}
 use Rattle.blanking.proofs.blank_all.Statement.{statement}
 use Rattle.blanking.proofs.blank_all.Tie as tie
-use Rattle.blanking.proofs.blank_all.Reads as reads
-use Rattle.blanking.proofs.blank_all.Lts as lts
-use Rattle.blanking.proofs.Cursor.step.Reads as step-reads
 
 abbrev Inv-loop : tie.InvT-loop
 Inv-loop text output₀ here₀ output here = (here .at ≤ length text) × (length output ≡ length output₀) × (finished text output (here .at) (here .at) ≡ finished text output₀ 0 0)
@@ -21,19 +18,10 @@ abbrev μ-loop : tie.MeasureT-loop
 loop-holds : tie.Need-loop-holds Inv-loop μ-loop
 loop-holds c = (omega arith, refl, refl)
 
-step-requires : tie.Need-step-requires Inv-loop μ-loop
-step-requires c κs = search needs
-
-loop-less : tie.Need-loop-less Inv-loop μ-loop
-loop-less c = search needs
-
 loop-again : tie.Need-loop-again Inv-loop μ-loop
 loop-again c = let t = c .before .before in
     let l = t .before .before .before .before in
     (omega arith, search needs, t .step .ensures .2 ∙ l .loop .inv .2)
-
-same-length : tie.Need-same-length Inv-loop μ-loop
-same-length c = search needs
 
 returns : tie.Need-returns Inv-loop μ-loop
 returns c = let l = c .before .before in
@@ -43,4 +31,4 @@ returns c = let l = c .before .before in
 pub blank-all-spec : {M : Type 1} → statement M
 blank-all-spec =
     tie.close
-    (tie.spec Inv-loop μ-loop loop-holds step-requires loop-less loop-again same-length returns)
+    (tie.spec Inv-loop μ-loop loop-holds (λ c κs. search needs) (λ c. search needs) loop-again (λ c. search needs) returns)

@@ -3,8 +3,6 @@ use mathlib.Core.Path.{sym}
 use Rattle.blanking.proofs.Whole.{put-lf, put-space}
 use Rattle.blanking.proofs.blank_byte.Statement.{statement}
 use Rattle.blanking.proofs.blank_byte.Tie as tie
-use Rattle.blanking.proofs.blank_byte.Reads as reads
-use Rattle.blanking.proofs.blank_byte.Lts as lts
 
 returns : tie.Need-returns
 returns c = sym (put-lf _ (c .if1 .taken))

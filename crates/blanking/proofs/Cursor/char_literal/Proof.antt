@@ -7,16 +7,6 @@ use Rattle.blanking.proofs.Rules.{char-escape, char-none, char-plain}
 use borrow.Author.Needs.{needs}
 use Rattle.blanking.proofs.Cursor.char_literal.Statement.{statement}
 use Rattle.blanking.proofs.Cursor.char_literal.Tie as tie
-use Rattle.blanking.proofs.Cursor.char_literal.Reads as reads
-use Rattle.blanking.proofs.Cursor.char_literal.Lts as lts
-use Rattle.blanking.proofs.Cursor.escape.Reads as escape-reads
-use Rattle.blanking.proofs.byte.Reads as byte-reads
-
-add-byte : tie.Need-add-byte
-add-byte c = search needs
-
-byte-requires : tie.Need-byte-requires
-byte-requires c κs = search needs
 
 escape-requires : tie.Need-escape-requires
 escape-requires c κs = let b = c .before in
@@ -29,15 +19,6 @@ returns c = let b = c .before .before in
     let f = b .before .before in
     let a = f .args in
     omega (arith, char-escape (a .s .now) (a .self .at) (f .pre .1) (sym (b .byte .ensures) ∙ c .before .if1 .taken))
-
-add-byte-2 : tie.Need-add-byte-2
-add-byte-2 c = search needs
-
-byte-requires-2 : tie.Need-byte-requires-2
-byte-requires-2 c κs = search needs
-
-add-t7 : tie.Need-add-t7
-add-t7 c = search needs
 
 returns-2 : tie.Need-returns-2
 returns-2 c = let b = c .before .before .before in
@@ -56,12 +37,12 @@ pub char-literal-spec : {M : Type 1} → statement M
 char-literal-spec =
     tie.close
     (tie.spec
-    add-byte
-    byte-requires
+    (λ c. search needs)
+    (λ c κs. search needs)
     escape-requires
     returns
-    add-byte-2
-    byte-requires-2
-    add-t7
+    (λ c. search needs)
+    (λ c κs. search needs)
+    (λ c. search needs)
     returns-2
     returns-3)

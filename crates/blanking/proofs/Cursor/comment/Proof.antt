@@ -10,35 +10,6 @@ use Rattle.blanking.proofs.Rules.{comment-block, comment-line, comment-
 use borrow.Author.Needs.{needs}
 use Rattle.blanking.proofs.Cursor.comment.Statement.{statement}
 use Rattle.blanking.proofs.Cursor.comment.Tie as tie
-use Rattle.blanking.proofs.Cursor.comment.Reads as reads
-use Rattle.blanking.proofs.Cursor.comment.Lts as lts
-use Rattle.blanking.proofs.Cursor.block_body.Reads as block-body-reads
-use Rattle.blanking.proofs.byte.Reads as byte-reads
-use Rattle.blanking.proofs.find.Reads as find-reads
-
-add-byte : tie.Need-add-byte
-add-byte c = search needs
-
-byte-requires : tie.Need-byte-requires
-byte-requires c κs = search needs
-
-sub-find : tie.Need-sub-find
-sub-find c = search needs
-
-part-find-start : tie.Need-part-find-start
-part-find-start c = search needs
-
-part-find-end : tie.Need-part-find-end
-part-find-end c = search needs
-
-find-requires : tie.Need-find-requires
-find-requires c κs = search needs
-
-add-t12 : tie.Need-add-t12
-add-t12 c = search needs
-
-add-t13 : tie.Need-add-t13
-add-t13 c = search needs
 
 block-body-requires : tie.Need-block-body-requires
 block-body-requires c κs = let b = c .before in
@@ -69,14 +40,14 @@ pub comment-spec : {M : Type 1} → statement M
 comment-spec =
     tie.close
     (tie.spec
-    add-byte
-    byte-requires
-    sub-find
-    part-find-start
-    part-find-end
-    find-requires
-    add-t12
-    add-t13
+    (λ c. search needs)
+    (λ c κs. search needs)
+    (λ c. search needs)
+    (λ c. search needs)
+    (λ c. search needs)
+    (λ c κs. search needs)
+    (λ c. search needs)
+    (λ c. search needs)
     block-body-requires
     returns
     returns-2

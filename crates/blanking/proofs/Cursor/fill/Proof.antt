@@ -8,9 +8,6 @@ use Rattle.blanking.specs.Contracts.{finished}
 use Rattle.blanking.proofs.Whole.{filled}
 use Rattle.blanking.proofs.Cursor.fill.Statement.{statement}
 use Rattle.blanking.proofs.Cursor.fill.Tie as tie
-use Rattle.blanking.proofs.Cursor.fill.Reads as reads
-use Rattle.blanking.proofs.Cursor.fill.Lts as lts
-use Rattle.blanking.proofs.blank_byte.Reads as blank-byte-reads
 
 abbrev Inv-loop : tie.InvT-loop
 Inv-loop text output₀ at₀ to output at = (at ≤ to) × (length output ≡ length output₀) × (finished text output at to ≡ finished text output₀ at₀ to)
@@ -20,21 +17,6 @@ abbrev μ-loop : tie.MeasureT-loop
 
 loop-holds : tie.Need-loop-holds Inv-loop μ-loop
 loop-holds c = (omega arith, refl, refl)
-
-shared-slice-read-blank-byte : tie.Need-shared-slice-read-blank-byte Inv-loop μ-loop
-shared-slice-read-blank-byte c = omega arith
-
-blank-byte-requires : tie.Need-blank-byte-requires Inv-loop μ-loop
-blank-byte-requires c κs = search needs
-
-slice-write-output : tie.Need-slice-write-output Inv-loop μ-loop
-slice-write-output c = omega arith
-
-add-at : tie.Need-add-at Inv-loop μ-loop
-add-at c = omega arith
-
-loop-less : tie.Need-loop-less Inv-loop μ-loop
-loop-less c = omega arith
 
 loop-again : tie.Need-loop-again Inv-loop μ-loop
 loop-again c = let l = c .before .before .before in
@@ -46,9 +28,6 @@ loop-again c = let l = c .before .before .before in
       length-set (l .loop .output) i (c .blank-byte .result) ∙ l .loop .inv .1,
       ap (λ (v : ℕ). finished s (set (l .loop .output) i v) (i + 1) e) (c .blank-byte .ensures) ∙ filled s (l .loop .output) i (omega arith) (omega arith) e (omega arith) ∙ l .loop .inv .2,
     )
-
-same-length : tie.Need-same-length Inv-loop μ-loop
-same-length c = omega arith
 
 returns : tie.Need-returns Inv-loop μ-loop
 returns c = let l = c .before in
@@ -63,11 +42,11 @@ fill-spec =
     Inv-loop
     μ-loop
     loop-holds
-    shared-slice-read-blank-byte
-    blank-byte-requires
-    slice-write-output
-    add-at
-    loop-less
+    (λ c. omega arith)
+    (λ c κs. search needs)
+    (λ c. omega arith)
+    (λ c. omega arith)
+    (λ c. omega arith)
     loop-again
-    same-length
+    (λ c. omega arith)
     returns)

@@ -12,35 +12,10 @@ use Rattle.blanking.proofs.Rules.{letters-none, letters-one, letters-tw
 use borrow.Author.Needs.{needs}
 use Rattle.blanking.proofs.Cursor.raw_letters.Statement.{statement}
 use Rattle.blanking.proofs.Cursor.raw_letters.Tie as tie
-use Rattle.blanking.proofs.Cursor.raw_letters.Reads as reads
-use Rattle.blanking.proofs.Cursor.raw_letters.Lts as lts
-use Rattle.blanking.proofs.byte.Reads as byte-reads
-use Rattle.blanking.proofs.pair.Reads as pair-reads
-
-shared-slice-read-if1 : tie.Need-shared-slice-read-if1
-shared-slice-read-if1 c = search needs
-
-add-t7 : tie.Need-add-t7
-add-t7 c = search needs
 
 returns : tie.Need-returns
 returns c = let a = c .before .before .before .args in
     omega (arith, letters-one (a .s .now) (a .self .at) (c .if1 .taken))
-
-shared-slice-read-pair : tie.Need-shared-slice-read-pair
-shared-slice-read-pair c = search needs
-
-add-byte : tie.Need-add-byte
-add-byte c = search needs
-
-byte-requires : tie.Need-byte-requires
-byte-requires c κs = search needs
-
-pair-requires : tie.Need-pair-requires
-pair-requires c κs = search needs
-
-add-t12 : tie.Need-add-t12
-add-t12 c = search needs
 
 returns-2 : tie.Need-returns-2
 returns-2 c = let p = c .before in
@@ -63,13 +38,13 @@ pub raw-letters-spec : {M : Type 1} → statement M
 raw-letters-spec =
     tie.close
     (tie.spec
-    shared-slice-read-if1
-    add-t7
+    (λ c. search needs)
+    (λ c. search needs)
     returns
-    shared-slice-read-pair
-    add-byte
-    byte-requires
-    pair-requires
-    add-t12
+    (λ c. search needs)
+    (λ c. search needs)
+    (λ c κs. search needs)
+    (λ c κs. search needs)
+    (λ c. search needs)
     returns-2
     returns-3)

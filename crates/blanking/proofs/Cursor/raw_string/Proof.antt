@@ -10,45 +10,16 @@ use Rattle.blanking.proofs.Rules.{raw-after-word, raw-fits, raw-no-lett
 use borrow.Author.Needs.{needs}
 use Rattle.blanking.proofs.Cursor.raw_string.Statement.{statement}
 use Rattle.blanking.proofs.Cursor.raw_string.Tie as tie
-use Rattle.blanking.proofs.Cursor.raw_string.Reads as reads
-use Rattle.blanking.proofs.Cursor.raw_string.Lts as lts
-use Rattle.blanking.proofs.Cursor.hashes.Reads as hashes-reads
-use Rattle.blanking.proofs.Cursor.raw_body.Reads as raw-body-reads
-use Rattle.blanking.proofs.Cursor.raw_letters.Reads as raw-letters-reads
-use Rattle.blanking.proofs.byte.Reads as byte-reads
-use Rattle.blanking.proofs.byte_before.Reads as byte-before-reads
-use Rattle.classes.proofs.is_word.Reads as is-word-reads
-
-byte-before-requires : tie.Need-byte-before-requires
-byte-before-requires c κs = search needs
-
-is-word-requires : tie.Need-is-word-requires
-is-word-requires c κs = search needs
 
 returns : tie.Need-returns
 returns c = let w = c .before in
     let a = w .before .before .before .args in
     omega (arith, raw-after-word (getD (0 ∷ a .s .now) (a .self .at) 0) (drop (a .self .at) (a .s .now)) (sym (ap (λ (k : ℕ). isWord k) (w .before .byte-before .ensures)) ∙ sym (w .is-word .ensures) ∙ c .if1 .taken))
 
-raw-letters-requires : tie.Need-raw-letters-requires
-raw-letters-requires c κs = search needs
-
 returns-2 : tie.Need-returns-2
 returns-2 c = let l = c .before in
     let a = l .before .before .before .before .before .args in
     omega (arith, raw-no-letters (a .s .now) (a .self .at) (getD (0 ∷ a .s .now) (a .self .at) 0) (l .raw-letters .result .at) (l .raw-letters .ensures .place) (c .if2 .taken))
-
-hashes-requires : tie.Need-hashes-requires
-hashes-requires c κs = search needs
-
-byte-requires : tie.Need-byte-requires
-byte-requires c κs = search needs
-
-add-t11 : tie.Need-add-t11
-add-t11 c = search needs
-
-sub-raw-body : tie.Need-sub-raw-body
-sub-raw-body c = search needs
 
 raw-body-requires : tie.Need-raw-body-requires
 raw-body-requires c κs = let h = c .before .before in
@@ -84,15 +55,15 @@ pub raw-string-spec : {M : Type 1} → statement M
 raw-string-spec =
     tie.close
     (tie.spec
-    byte-before-requires
-    is-word-requires
+    (λ c κs. search needs)
+    (λ c κs. search needs)
     returns
-    raw-letters-requires
+    (λ c κs. search needs)
     returns-2
-    hashes-requires
-    byte-requires
-    add-t11
-    sub-raw-body
+    (λ c κs. search needs)
+    (λ c κs. search needs)
+    (λ c. search needs)
+    (λ c. search needs)
     raw-body-requires
     returns-3
     returns-4)

@@ -8,19 +8,6 @@ use Rattle.blanking.proofs.Whole.{begun, copied}
 use borrow.Author.Needs.{needs}
 use Rattle.blanking.proofs.Cursor.step.Statement.{statement}
 use Rattle.blanking.proofs.Cursor.step.Tie as tie
-use Rattle.blanking.proofs.Cursor.step.Reads as reads
-use Rattle.blanking.proofs.Cursor.step.Lts as lts
-use Rattle.blanking.proofs.Cursor.fill.Reads as fill-reads
-use Rattle.blanking.proofs.Cursor.token.Reads as token-reads
-
-token-requires : tie.Need-token-requires
-token-requires c κs = search needs
-
-fill-requires : tie.Need-fill-requires
-fill-requires c κs = search needs
-
-same-length : tie.Need-same-length
-same-length c = search needs
 
 returns : tie.Need-returns
 returns c = let f = c .before .before in
@@ -33,18 +20,6 @@ returns c = let f = c .before .before in
       ap (λ (k : ℕ). finished s (f .fill .last .1 .1 .0) k k) (f .fill .ensures .0) ∙ f .fill .ensures .1 ∙ begun s (a .output .now) i (t .token .result .at) (t .token .ensures .place),
     )
 
-shared-slice-read-output : tie.Need-shared-slice-read-output
-shared-slice-read-output c = search needs
-
-slice-write-output : tie.Need-slice-write-output
-slice-write-output c = search needs
-
-add-t12 : tie.Need-add-t12
-add-t12 c = search needs
-
-same-length-2 : tie.Need-same-length-2
-same-length-2 c = search needs
-
 returns-2 : tie.Need-returns-2
 returns-2 c = let t = c .before .before .before in
     let a = t .before .before .before .args in
@@ -54,12 +29,12 @@ pub step-spec : {M : Type 1} → statement M
 step-spec =
     tie.close
     (tie.spec
-    token-requires
-    fill-requires
-    same-length
+    (λ c κs. search needs)
+    (λ c κs. search needs)
+    (λ c. search needs)
     returns
-    shared-slice-read-output
-    slice-write-output
-    add-t12
-    same-length-2
+    (λ c. search needs)
+    (λ c. search needs)
+    (λ c. search needs)
+    (λ c. search needs)
     returns-2)

@@ -7,30 +7,6 @@ use Rattle.blanking.proofs.Rules.{string-fits, token-apostrophe, token-
 use borrow.Author.Needs.{needs}
 use Rattle.blanking.proofs.Cursor.token.Statement.{statement}
 use Rattle.blanking.proofs.Cursor.token.Tie as tie
-use Rattle.blanking.proofs.Cursor.token.Reads as reads
-use Rattle.blanking.proofs.Cursor.token.Lts as lts
-use Rattle.blanking.proofs.Cursor.char_literal.Reads as char-literal-reads
-use Rattle.blanking.proofs.Cursor.comment.Reads as comment-reads
-use Rattle.blanking.proofs.Cursor.raw_string.Reads as raw-string-reads
-use Rattle.blanking.proofs.Cursor.string_body.Reads as string-body-reads
-
-shared-slice-read-match : tie.Need-shared-slice-read-match
-shared-slice-read-match c = search needs
-
-comment-requires : tie.Need-comment-requires
-comment-requires c κs = search needs
-
-raw-string-requires : tie.Need-raw-string-requires
-raw-string-requires c κs = search needs
-
-add-t8 : tie.Need-add-t8
-add-t8 c = search needs
-
-string-body-requires : tie.Need-string-body-requires
-string-body-requires c κs = search needs
-
-char-literal-requires : tie.Need-char-literal-requires
-char-literal-requires c κs = search needs
 
 returns : tie.Need-returns
 returns c = let m = c .before in
@@ -61,12 +37,12 @@ pub token-spec : {M : Type 1} → statement M
 token-spec =
     tie.close
     (tie.spec
-    shared-slice-read-match
-    comment-requires
-    raw-string-requires
-    add-t8
-    string-body-requires
-    char-literal-requires
+    (λ c. search needs)
+    (λ c κs. search needs)
+    (λ c κs. search needs)
+    (λ c. search needs)
+    (λ c κs. search needs)
+    (λ c κs. search needs)
     returns
     returns-2
     returns-3
