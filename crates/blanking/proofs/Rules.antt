@@ -50,14 +50,14 @@ module _ (p : ℕ) (d : List ℕ) where
   unfolding rawToken
   raw-after-word w = rw (w, and-false (ltb 0 (rawLetters d)), rawToken)
 
-  module _ (h : 0 < rawLetters d) (w : isWord p ≡ false) (n : ℕ) (e : n ≡ hashes (drop (rawLetters d) d)) where
-    raw-whole : getD d (rawLetters d + n) 0 ≡ quote → rawToken p d ≡ rawLetters d + n + 1 + rawLength n (drop (rawLetters d + n + 1) d)
-    unfolding rawToken
-    raw-whole q = rw (← e, lt-ltb 0 (rawLetters d) h, w, eq-eqb (getD d (rawLetters d + n) 0) quote q, rawToken, ← e)
-
+  module _ (n : ℕ) (e : n ≡ hashes (drop (rawLetters d) d)) where
     raw-plain : getD d (rawLetters d + n) 0 ≢ quote → rawToken p d ≡ 0
     unfolding rawToken
-    raw-plain q = rw (← e, lt-ltb 0 (rawLetters d) h, w, ne-eqb (getD d (rawLetters d + n) 0) quote q, rawToken)
+    raw-plain q = rw (← e, ne-eqb (getD d (rawLetters d + n) 0) quote q, and-false (not (isWord p)), and-false (ltb 0 (rawLetters d)), rawToken)
+
+    raw-whole : 0 < rawLetters d → isWord p ≡ false → getD d (rawLetters d + n) 0 ≡ quote → rawToken p d ≡ rawLetters d + n + 1 + rawLength n (drop (rawLetters d + n + 1) d)
+    unfolding rawToken
+    raw-whole h w q = rw (← e, lt-ltb 0 (rawLetters d) h, w, eq-eqb (getD d (rawLetters d + n) 0) quote q, rawToken, ← e)
 
 -- each rule where it may fit
 module _ (s : List ℕ) (i : ℕ) where
@@ -96,7 +96,7 @@ module _ (s : List ℕ) (i : ℕ) where
     pub raw-no-letters : j ≡ i → rawToken p (drop i s) ≡ 0
     raw-no-letters h = raw-none p (drop i s) (omega arith)
 
-    module _ (h : j ≢ i) (w : isWord p ≡ false) (q : ℕ) (n : q ≡ j + hashes (drop j s)) where
+    module _ (q : ℕ) (n : q ≡ j + hashes (drop j s)) where
       count : q - j ≡ hashes (drop (rawLetters (drop i s)) (drop i s))
       count = rw (drop-drop (rawLetters (drop i s)) i s, ← l) (omega arith)
 
@@ -105,15 +105,15 @@ module _ (s : List ℕ) (i : ℕ) where
           let e : i + (rawLetters (drop i s) + (q - j)) ≡ q = omega arith in
           rw (getD-drop i s (rawLetters (drop i s) + (q - j)) 0, e)
 
-      pub raw-fits : getD s q 0 ≡ quote → rawToken p (drop i s) ≡ q + 1 - i + rawLength (q - j) (drop (q + 1) s)
-      raw-fits e =
+      pub raw-no-quote : getD s q 0 ≢ quote → rawToken p (drop i s) ≡ 0
+      raw-no-quote e = raw-plain p (drop i s) (q - j) count (λ x. e (sym place ∙ x))
+
+      pub raw-fits : j ≢ i → isWord p ≡ false → getD s q 0 ≡ quote → rawToken p (drop i s) ≡ q + 1 - i + rawLength (q - j) (drop (q + 1) s)
+      raw-fits h w e =
           let k : rawLetters (drop i s) + (q - j) + 1 ≡ q + 1 - i = omega arith in
           let f : i + (rawLetters (drop i s) + (q - j) + 1) ≡ q + 1 = omega arith in
           let d : drop (rawLetters (drop i s) + (q - j) + 1) (drop i s) ≡ drop (q + 1) s = rw (drop-drop (rawLetters (drop i s) + (q - j) + 1) i s, f) in
-          omega (arith, raw-whole p (drop i s) (omega arith) w (q - j) count (place ∙ e), ap (rawLength (q - j)) d)
-
-      pub raw-no-quote : getD s q 0 ≢ quote → rawToken p (drop i s) ≡ 0
-      raw-no-quote e = raw-plain p (drop i s) (omega arith) w (q - j) count (λ x. e (sym place ∙ x))
+          omega (arith, raw-whole p (drop i s) (q - j) count (omega arith) w (place ∙ e), ap (rawLength (q - j)) d)
 
   -- w is the window in which an apostrophe closes an escape
   pub escape-fits : (w : List ℕ) → w ≡ take 10 (drop 2 (drop i s)) → bytesBefore apostrophe w < length w → escapeToken (drop i s) ≡ 3 + bytesBefore apostrophe w

@@ -193,15 +193,12 @@ impl Cursor {
         self
     }
 
-    // Past the raw string that opens here, or the same place where none does. Most letters stand inside a word, so the byte before is tested first.
+    // Past the raw string that opens here, or the same place where none does. What follows the letters rules out most words, so the byte before is tested last.
     fn raw_string(self, s: &[u8]) -> Cursor
         requires { ⌜ self .at < length (now s) ⌝ }
         ensures { λ r. ⌜ Steps (now (s .entry)) (self .at) (rawToken (getD (0 ∷ now (s .entry)) (self .at) 0) (drop (self .at) (now (s .entry)))) (r .at) ⌝ }
     {
         let at = self.at;
-        if classes::is_word(byte_before(s, at)) {
-            return self;
-        }
         let letters = self.raw_letters(s);
         let k = letters.at;
         if k == at {
@@ -209,10 +206,13 @@ impl Cursor {
         }
         let opening = letters.hashes(s);
         let q = opening.at;
-        if byte(s, q) == QUOTE {
-            return Cursor { at: q + 1 }.raw_body(s, q - k);
+        if byte(s, q) != QUOTE {
+            return self;
         }
-        self
+        if classes::is_word(byte_before(s, at)) {
+            return self;
+        }
+        Cursor { at: q + 1 }.raw_body(s, q - k)
     }
 
     // A character literal whose second byte is a backslash.
