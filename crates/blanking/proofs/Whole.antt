@@ -6,8 +6,7 @@ use Prim.Native.Nat.{ℕ, zero, suc, pred, _+_, _-_, _≤_, _<_}
 use native.Mathlib.Numerals.{add-one}
 use native.Mathlib.Omega.{arith}
 use borrow.Author.Tests.{eq-eqb, ne-eqb, lt-ltb, le-ltb}
-use lib.Dec.{ltb}
-use lib.ListN.{length, getD, take, drop, set, take-append-drop, drop-of-length-le, length-take, length-drop}
+use lib.ListN.{length, getD, take, drop, set, take-append-drop, drop-of-length-le}
 use lib.Seq.{take-suc-set, drop-set-lt, drop-drop}
 use Rattle.answers.specs.declared.Answer.{Answer}
 use Rattle.text_rules.specs.Bytes.{_orElse_}

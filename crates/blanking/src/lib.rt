@@ -34,8 +34,8 @@ const BACKSLASH: u8 = b'\\';
 const MAX_TEXT: usize = 16777216;
 
 // A place in a text.
-pub struct Cursor {
-    pub at: usize,
+struct Cursor {
+    at: usize,
 }
 
 // The byte at a place, 0 past the end.

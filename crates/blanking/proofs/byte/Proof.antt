@@ -1,4 +1,4 @@
--- `blanking::byte` meets its contract.
+-- `blanking::byte` meets its contract: past the end the list has its default, 0.
 use mathlib.Core.Path.{sym}
 use lib.ListN.{List·getD-eq-default}
 use borrow.Author.Needs.{needs}

@@ -1,4 +1,4 @@
--- `blanking::byte_before` meets its contract.
+-- `blanking::byte_before` meets its contract: the byte before a place stands one place earlier.
 use mathlib.Core.Path.{_∙_, sym}
 use Rattle.text_rules.specs.ScanLaws.{before-place}
 use borrow.Author.Needs.{needs}

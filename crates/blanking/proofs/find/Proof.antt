@@ -1,6 +1,6 @@
--- `blanking::find` meets its contract.
-use Prim.Native.Nat.{ℕ, _≤_, _<_, _-_, _+_}
-use mathlib.Core.Path.{_≡_, refl}
+-- `blanking::find` meets its contract: at each turn the bytes passed and those before the first `x` of the rest make those of the whole.
+use Prim.Native.Nat.{ℕ, _≤_, _-_, _+_}
+use mathlib.Core.Path.{_≡_}
 use native.Mathlib.Omega.{arith}
 use mathlib.Core.Bool.{not}
 use lib.Dec.{eqb}

@@ -1,4 +1,4 @@
--- `blanking::pair` meets its contract.
+-- `blanking::pair` meets its contract: where the first test fails, so do both.
 use borrow.Author.Tests.{eq-eqb, ne-eqb}
 use Rattle.blanking.proofs.pair.Statement.{statement}
 use Rattle.blanking.proofs.pair.Tie as tie

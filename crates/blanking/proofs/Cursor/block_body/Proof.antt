@@ -1,5 +1,6 @@
--- `blanking::Cursor::block_body` meets its contract.
-use Prim.Native.Nat.{_+_, _-_, _≤_, ℕ}
+-- `blanking::Cursor::block_body` meets its contract: at each turn the bytes passed and the length asked of the rest make the length asked at the start.
+-- Each arm is one step of that length; a comment opened inside takes two bytes, so the depth fits.
+use Prim.Native.Nat.{_+_, _-_, _≤_}
 use mathlib.Core.Path.{_∙_, _≡_, sym}
 use native.Mathlib.Omega.{arith}
 use borrow.Author.Needs.{needs}

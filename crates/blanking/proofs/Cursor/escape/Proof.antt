@@ -1,7 +1,7 @@
--- `blanking::Cursor::escape` meets its contract.
+-- `blanking::Cursor::escape` meets its contract: the part searched is the definition's window of ten bytes, cut at the end of the text.
 use Prim.Native.Nat.{_+_, _-_}
 use native.Mathlib.Omega.{arith}
-use lib.ListN.{drop, length, length-drop, length-take, take}
+use lib.ListN.{drop, length-drop, length-take, take}
 use Rattle.blanking.proofs.Rules.{escape-fits, escape-not, window}
 use borrow.Author.Needs.{needs}
 use Rattle.blanking.proofs.Cursor.escape.Statement.{statement}

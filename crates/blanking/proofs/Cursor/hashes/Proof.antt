@@ -1,4 +1,4 @@
--- `blanking::Cursor::hashes` meets its contract.
+-- `blanking::Cursor::hashes` meets its contract: at each turn the hashes passed and those of the rest make those counted at the start.
 use Prim.Native.Nat.{_+_, _-_, _≤_, ℕ}
 use mathlib.Core.Path.{_≡_}
 use native.Mathlib.Omega.{arith}

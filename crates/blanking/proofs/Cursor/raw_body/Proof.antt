@@ -1,8 +1,8 @@
--- `blanking::Cursor::raw_body` meets its contract.
-use Prim.Native.Nat.{_+_, _-_, _≤_, ℕ}
+-- `blanking::Cursor::raw_body` meets its contract: at each turn the bytes passed and the length asked of the rest make the length asked at the start.
+-- After a quote the hashes that follow decide, as in the definition.
+use Prim.Native.Nat.{_+_, _-_, _≤_}
 use mathlib.Core.Path.{_≡_}
 use native.Mathlib.Omega.{arith}
-use borrow.Author.Needs.{needs}
 use lib.ListN.{drop, length}
 use Rattle.source_rules.specs.Blank.{rawLength}
 use Rattle.blanking.proofs.Bodies.{raw-close, raw-end, raw-other, raw-short}

@@ -1,6 +1,5 @@
 -- `blanking::Cursor::step` meets its contract: a token is pending as soon as it is known, and a byte that begins none is copied.
 use mathlib.Core.Path.{_∙_, ap}
-use mathlib.Core.List.{List}
 use Prim.Native.Nat.{ℕ}
 use native.Mathlib.Omega.{arith}
 use Rattle.blanking.specs.Contracts.{finished}

@@ -1,7 +1,7 @@
--- `blanking::Cursor::string_body` meets its contract.
+-- `blanking::Cursor::string_body` meets its contract: at each turn the bytes passed and the length asked of the rest make the length asked at the start.
 use mathlib.Core.Path.{_≡_, ap}
 use mathlib.Core.Bool.{Bool}
-use Prim.Native.Nat.{_+_, _-_, _≤_, ℕ}
+use Prim.Native.Nat.{_+_, _-_, _≤_}
 use native.Mathlib.Omega.{arith}
 use lib.ListN.{drop, length}
 use Rattle.source_rules.specs.Blank.{stringLength}
