@@ -1,33 +1,28 @@
 -- The exports against the calls. Where the lent bytes have room for the counts, an export ends as its call does, and on success the counts
 -- stand in those bytes; where they have not, 5 is returned at 5's place and every buffer stays.
-use Prim.Native.Nat.{ℕ, zero, suc, _+_, _*_, _≤_, _<_}
+use Prim.Native.Nat.{ℕ, zero, suc, _≤_, _<_}
 use mathlib.Core.Path.{_≡_, refl, ap, ap₂, sym, _∙_}
-use mathlib.Core.Bool.{true, false}
-use mathlib.Core.Logic.{_⊎_, inl, inr}
 use mathlib.Core.List.{List, [], _∷_, _++_, map}
 use native.Mathlib.Omega.{arith}
-use lib.Dec.{ltb}
 use lib.ListN.{length, drop}
 use lib.Seq.{drop-at}
 use borrow.Author.Tests.{le-ltb, lt-ltb}
-use Rattle.text_rules.specs.Bytes.{All, _orElse_, _when_, joined}
+use Rattle.text_rules.specs.Bytes.{_orElse_, joined}
 use Rattle.text_rules.specs.U32.{u32Bytes}
 use Rattle.source_rules.specs.BlankCall.{blankNumber}
 use Rattle.gate_rules.specs.Baseline.{entries}
-use Rattle.gate_rules.specs.Calls.{Checked, Scanned, Updated, answerAt, blankCall, checkAnswer, checkCall, checkNumber, outputAfter, recordsAfter, scanCall, scanNumber, updateAnswer, updateCall, updateNumber, workAfter}
-use Rattle.gate_rules.specs.Check.{listing}
+use Rattle.gate_rules.specs.Calls.{answerAt, blankCall, checkAnswer, checkCall, checkNumber, outputAfter, recordsAfter, scanCall, scanNumber, updateAnswer, updateCall, updateNumber, workAfter}
 use Rattle.gate_rules.specs.Exports.{Exported, countBytes, exportNumber, exportedAt, exportedBlank, exportedCheck, exportedReport, exportedScan, exportedUpdate, ownTable}
 use Rattle.gate_rules.specs.Functions.{Limits}
 use Rattle.gate_rules.specs.Gate.{gate}
-use Rattle.gate_rules.specs.Left.{ExportedLeft, OutputLeft}
+use Rattle.gate_rules.specs.Left.{ExportedLeft}
 use Rattle.gate_rules.specs.LeftLaws.{exported-check-left, exported-report-left, exported-scan-left, exported-update-left, output-leaves}
 use Rattle.gate_rules.specs.Report.{FileSum}
-use Rattle.gate_rules.specs.ReportCall.{Reported, reportCall, reportNumber, reportOf}
+use Rattle.gate_rules.specs.ReportCall.{reportCall, reportNumber, reportOf}
 use Rattle.gate_rules.specs.Scan.{functionsOf}
-use Rattle.gate_rules.specs.Table.{First, Row, treeRows}
+use Rattle.gate_rules.specs.Table.{treeRows}
 use Rattle.gate_rules.specs.TableLaws.{answer-number, at-most, check-answer-number, report-any-sums, tree-first, update-answer-number}
 use Rattle.gate_rules.specs.Tree.{sources, treeRefusal}
-use Rattle.gate_rules.specs.Update.{baselineText}
 
 -- An export that ends as a call does: `number`, `work′`, `records″` and `output′` are the call's, `values` the counts of its answer.
 -- On success the first `width` bytes of the counts hold the values, as four bytes each; bytes beyond stay.

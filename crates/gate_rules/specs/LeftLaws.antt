@@ -1,16 +1,15 @@
 -- Every call leaves what Left says, for every input.
 use Prim.Native.Nat.{ℕ, zero, suc, _+_, _-_, _*_, _/_, _≤_, _<_, min}
-use mathlib.Core.Path.{_≡_, refl, ap, ap₂, sym, _∙_, subst}
-use mathlib.Core.Bool.{true, false, _||_}
+use mathlib.Core.Path.{_≡_, refl, ap, sym, _∙_, subst}
 use mathlib.Core.Logic.{_⊎_, inl, inr, _≢_}
 use mathlib.Core.List.{List, [], _∷_, _++_, map}
 use native.Mathlib.Omega.{arith}
 use lib.Dec.{eqb}
-use lib.ListN.{length, take, drop, getD, length-append, length-drop, length-map, length-take, List·getD-append}
-use lib.Seq.{getD-append-add, getD-drop, getD-take}
-use borrow.Author.Tests.{ne-eqb}
+use lib.ListN.{length, take, drop, getD, length-append, length-map, length-take, List·getD-append}
+use lib.Seq.{getD-append-add, getD-drop, getD-take, take-all}
+use borrow.Author.Tests.{eqb-false, eqb-true}
 use Rattle.text_rules.specs.Bytes.{All, joined, overwritten}
-use Rattle.text_rules.specs.BytesLaws.{All-append, All-map}
+use Rattle.text_rules.specs.BytesLaws.{All-append, All-map, whether}
 use Rattle.text_rules.specs.U32.{u32Bytes}
 use Rattle.source_rules.specs.Blank.{blanked}
 use Rattle.source_rules.specs.BlankCall.{blankNumber, blankOutput}
@@ -18,13 +17,13 @@ use Rattle.source_rules.specs.BlankLaws.{blanked-length}
 use Rattle.source_rules.specs.TextScan.{TextFun, functions}
 use Rattle.gate_rules.specs.BufferLaws.{blank-length, put-length}
 use Rattle.gate_rules.specs.Baseline.{Entry, entries}
-use Rattle.gate_rules.specs.Calls.{answerAt, blankCall, checkAnswer, checkCall, checkNumber, isScanned, outputAfter, recordsAfter, room, scanCall, scanNumber, updateAnswer, updateCall, updateNumber, workAfter}
+use Rattle.gate_rules.specs.Calls.{answerAt, blankCall, checkAnswer, checkCall, checkNumber, outputAfter, recordsAfter, room, scanCall, scanNumber, updateAnswer, updateCall, updateNumber, workAfter}
 use Rattle.gate_rules.specs.Check.{listing, regressions, stale}
 use Rattle.gate_rules.specs.ConditionLaws.{files-count}
 use Rattle.gate_rules.specs.Exports.{countBytes, exportedAt, exportedBlank, exportedCheck, exportedReport, exportedScan, exportedUpdate}
 use Rattle.gate_rules.specs.Functions.{Fun, Limits}
 use Rattle.gate_rules.specs.Gate.{fileOf, gate}
-use Rattle.gate_rules.specs.Left.{BlankLeft, CheckedLeft, Counted, ExportedLeft, OutputLeft, ReportedLeft, ScanLeft, ScannedLeft, SumsLeft, UpdatedLeft, WorkBlanked, firstRecords}
+use Rattle.gate_rules.specs.Left.{BlankLeft, CheckedLeft, Counted, ExportedLeft, OutputLeft, ReportedLeft, ScanLeft, ScannedLeft, SumsLeft, SumsWritten, UpdatedLeft, WorkBlanked, firstRecords}
 use Rattle.gate_rules.specs.Records.{blankInto, putAt, recordBytes, recordOf, records, recordsIn, recordsOfFiles}
 use Rattle.gate_rules.specs.RecordsLaws.{record-width, records-count}
 use Rattle.gate_rules.specs.Report.{FileSum, sumsFrom}
@@ -128,13 +127,34 @@ past (r ∷ rs) qs n d (inr (h, f)) = (h, past rs qs n (d .1) f)
 past-next : (r : Row) (qs : List Row) (n : ℕ) → n ≢ r .number → First (r ∷ qs) n → Fails r
 past-next r qs n d f = past (r ∷ []) qs n (d, tt) f .0
 
-unscanned : (n : ℕ) → 1 ≤ n → n ≤ 7 → isScanned n ≡ false
-unscanned n a b = rw (ne-eqb n 0 (λ e. omega arith), ne-eqb n 8 (λ e. omega arith), ne-eqb n 9 (λ e. omega arith))
+-- a fact of every number from 1 to 7, or to 8, from that of each
+one-to-seven : (P : ℕ → Type 0) → P 1 → P 2 → P 3 → P 4 → P 5 → P 6 → P 7 → (n : ℕ) → 1 ≤ n → n ≤ 7 → P n
+one-to-seven P p₁ p₂ p₃ p₄ p₅ p₆ p₇ zero a b = absurd (omega arith)
+one-to-seven P p₁ p₂ p₃ p₄ p₅ p₆ p₇ (suc zero) a b = p₁
+one-to-seven P p₁ p₂ p₃ p₄ p₅ p₆ p₇ (suc (suc zero)) a b = p₂
+one-to-seven P p₁ p₂ p₃ p₄ p₅ p₆ p₇ (suc (suc (suc zero))) a b = p₃
+one-to-seven P p₁ p₂ p₃ p₄ p₅ p₆ p₇ (suc (suc (suc (suc zero)))) a b = p₄
+one-to-seven P p₁ p₂ p₃ p₄ p₅ p₆ p₇ (suc (suc (suc (suc (suc zero))))) a b = p₅
+one-to-seven P p₁ p₂ p₃ p₄ p₅ p₆ p₇ (suc (suc (suc (suc (suc (suc zero)))))) a b = p₆
+one-to-seven P p₁ p₂ p₃ p₄ p₅ p₆ p₇ (suc (suc (suc (suc (suc (suc (suc zero))))))) a b = p₇
+one-to-seven P p₁ p₂ p₃ p₄ p₅ p₆ p₇ (suc (suc (suc (suc (suc (suc (suc (suc n)))))))) a b = absurd (omega arith)
 
-scanned : (n : ℕ) → (n ≡ 0) ⊎ (n ≡ 8) ⊎ (n ≡ 9) → isScanned n ≡ true
-scanned n (inl e) = rw e
-scanned n (inr (inl e)) = rw e
-scanned n (inr (inr e)) = rw e
+one-to-eight : (P : ℕ → Type 0) → ((n : ℕ) → 1 ≤ n → n ≤ 7 → P n) → P 8 → (n : ℕ) → 1 ≤ n → n ≤ 8 → P n
+one-to-eight P p₇ p₈ n a b =
+    elim (whether (eqb n 8)) [
+      | inl e ↦ rw (eqb-true n 8 e) p₈
+      | inr e ↦ let m = eqb-false n 8 e in p₇ n a (omega arith)
+    ]
+
+-- a fact of 0, 8 and 9, or of 0 and 9, from that of each
+at-scanned : (P : ℕ → Type 0) → P 0 → P 8 → P 9 → (n : ℕ) → (n ≡ 0) ⊎ (n ≡ 8) ⊎ (n ≡ 9) → P n
+at-scanned P p₀ p₈ p₉ n (inl e) = rw e p₀
+at-scanned P p₀ p₈ p₉ n (inr (inl e)) = rw e p₈
+at-scanned P p₀ p₈ p₉ n (inr (inr e)) = rw e p₉
+
+at-listed : (P : ℕ → Type 0) → P 0 → P 9 → (n : ℕ) → (n ≡ 0) ⊎ (n ≡ 9) → P n
+at-listed P p₀ p₉ n (inl e) = rw e p₀
+at-listed P p₀ p₉ n (inr e) = rw e p₉
 
 sound : (tree : List ℕ) → All Fails (treeRows tree) → SoundTree tree
 sound tree h = unrefused tree (exactly-zero (treeRows tree) (tree-different tree) (treeRefusal tree) (tree-first tree) .1 h)
@@ -196,16 +216,22 @@ module _ (tree work records′ : List ℕ) (short : Type 0) (fits : (short → �
   unfolding workAfter recordsAfter gate
   scan-leaves =
       record {
-        refused-work = λ a b. rw (unscanned number a b);
-        refused-records = λ a b. rw (unscanned number a b);
-        scanned-work = λ s. rw (scanned number s) (work-blanked tree work (tree-sound s) (work-fits s));
+        refused-work = one-to-seven (λ n. workAfter gate n tree work ≡ work) refl refl refl refl refl refl refl number;
+        refused-records = one-to-seven (λ n. recordsAfter gate n tree records′ ≡ records′) refl refl refl refl refl refl refl number;
+        scanned-work = λ s.
+            let there = work-blanked tree work (tree-sound s) (work-fits s) in
+            at-scanned (λ n. WorkBlanked tree work (workAfter gate n tree work)) there there there number s;
         eight-records = λ e.
             let count = records-count tree (tree-sound (inr (inl e))) in
-            rw (scanned number (inr (inl e))) (records-put tree records′ (room records′) (min (length (functionsOf gate tree)) (room records′)) (omega arith));
+            let first = min (length (functionsOf gate tree)) (room records′) in
+            subst (λ n. recordsAfter gate n tree records′ ≡ firstRecords first tree records′) (sym e) (records-put tree records′ (room records′) first (omega arith));
         written-records = λ s.
             let count = records-count tree (tree-sound (with-eight s)) in
             let fit = all-fit s in
-            rw (scanned number (with-eight s)) (records-put tree records′ (room records′) (length (functionsOf gate tree)) (omega arith));
+            let all = length (functionsOf gate tree) in
+            let whole : take all (records tree) ≡ records tree = take-all all (records tree) (omega arith) in
+            let there = records-put tree records′ (room records′) all (omega arith) ∙ ap (λ rs. joined (map recordBytes rs) ++ drop (32 * all) records′) whole in
+            at-listed (λ n. recordsAfter gate n tree records′ ≡ joined (map recordBytes (records tree)) ++ drop (32 * all) records′) there there number s;
       }
 
 -- OUTPUT, SUMS, COUNTS
@@ -218,13 +244,6 @@ output-leaves-as (suc n) text text′ output h = record { refused-output = λ l.
 pub output-leaves : (number : ℕ) (text output : List ℕ) → OutputLeft text output number (outputAfter number text output)
 output-leaves number text output = output-leaves-as number text text output (λ e. refl)
 
-unsummed : (n : ℕ) → 1 ≤ n → n ≤ 8 → (eqb n 0 || eqb n 9) ≡ false
-unsummed n a b = rw (ne-eqb n 0 (λ e. omega arith), ne-eqb n 9 (λ e. omega arith))
-
-summed : (n : ℕ) → (n ≡ 0) ⊎ (n ≡ 9) → (eqb n 0 || eqb n 9) ≡ true
-summed n (inl e) = rw e
-summed n (inr e) = rw e
-
 sums-length : (functionsIn : List File → List Fun) (n : ℕ) (files : List File) → length (sumsFrom functionsIn n files) ≡ length files
 unfolding sumsFrom
 sums-length functionsIn n [] = refl
@@ -234,19 +253,24 @@ sums-count : (tree : List ℕ) → length (sumsOf gate tree) ≡ length (sources
 unfolding sumsOf gate
 sums-count tree = sums-length (gate .functionsIn) 0 (gate .files tree) ∙ length-map (sources tree) fileOf
 
-sums-leave : (tree : List ℕ) (sums : List FileSum) (number : ℕ) → SumsLeft tree sums number (sumsAfter gate number tree sums)
-unfolding sumsAfter fileCount
-sums-leave tree sums number =
+sums-written : (tree : List ℕ) (sums : List FileSum) → SumsWritten tree sums (overwritten (sumsOf gate tree) sums)
+unfolding fileCount
+sums-written tree sums =
     record {
-      refused-sums = λ a b. rw (unsummed number a b);
-      written-sums = λ s.
-          rw (summed number s)
-          (record {
-            written = ap (λ k. sumsOf gate tree ++ drop k sums) (sums-count tree);
-            each = λ k h.
-                List·getD-append (sumsOf gate tree) (drop (length (sumsOf gate tree)) sums) noSum k (omega (arith, sums-count tree))
-                ∙ file-sum tree k (omega (arith, files-count tree));
-          });
+      written = ap (λ k. sumsOf gate tree ++ drop k sums) (sums-count tree);
+      each = λ k h.
+          List·getD-append (sumsOf gate tree) (drop (length (sumsOf gate tree)) sums) noSum k (omega (arith, sums-count tree))
+          ∙ file-sum tree k (omega (arith, files-count tree));
+    }
+
+sums-leave : (tree : List ℕ) (sums : List FileSum) (number : ℕ) → SumsLeft tree sums number (sumsAfter gate number tree sums)
+unfolding sumsAfter
+sums-leave tree sums number =
+    let same : ℕ → Type 0 = λ n. sumsAfter gate n tree sums ≡ sums in
+    let there = sums-written tree sums in
+    record {
+      refused-sums = one-to-eight same (one-to-seven same refl refl refl refl refl refl refl) refl number;
+      written-sums = at-listed (λ n. SumsWritten tree sums (sumsAfter gate n tree sums)) there there number;
     }
 
 answer-counts : (number written functions : ℕ) → let a = answerAt number written functions in Counted (written ∷ functions ∷ []) (a .number) (a .written ∷ a .functions ∷ [])

@@ -1,9 +1,9 @@
 -- Every call answers as its table says: the number is that of the first row whose condition holds, and 0 where none does, for every input.
 -- So each number is returned exactly when its own condition holds and those of the rows before it fail, and a call succeeds whenever the
 -- tree is accepted and the lent buffers suffice.
-use Prim.Native.Nat.{ℕ, zero, suc, _+_, _*_, _/_, _≤_, _<_}
-use mathlib.Core.Path.{_≡_, refl, ap, sym, _∙_}
-use mathlib.Core.Bool.{Bool, true, false, not}
+use Prim.Native.Nat.{ℕ, zero, suc, _*_, _≤_, _<_}
+use mathlib.Core.Path.{_≡_, refl, sym, _∙_}
+use mathlib.Core.Bool.{Bool, true, false}
 use mathlib.Core.Logic.{_⊎_, inl, inr, ⊎-elim, _≢_, _↔_}
 use mathlib.Core.List.{List, [], _∷_, _++_}
 use native.Mathlib.Omega.{arith}
@@ -22,8 +22,8 @@ use Rattle.gate_rules.specs.Gate.{fileOf, gate}
 use Rattle.gate_rules.specs.Report.{FileSum}
 use Rattle.gate_rules.specs.ReportCall.{reportCall, reportNumber, reportOf}
 use Rattle.gate_rules.specs.Scan.{Accepted, functionsOf}
-use Rattle.gate_rules.specs.Table.{BadPath, BadText, Different, Fails, FewCounts, FewSums, First, LongBaseline, ManyFunctions, Row, TooLong, TooShort, Unlaid, _if_, blankTable, checkTable, exportedCheckTable, exportedReportTable, exportedScanTable, exportedUpdateTable, reportTable, scanTable, treeRows, updateTable}
-use Rattle.gate_rules.specs.Tree.{isLaidOut, pathsRise, sources, textsGood, treeRefusal}
+use Rattle.gate_rules.specs.Table.{BadPath, BadText, Different, Fails, FewCounts, FewSums, First, ManyFunctions, Row, TooLong, TooShort, Unlaid, _if_, blankTable, checkTable, exportedCheckTable, exportedReportTable, exportedScanTable, exportedUpdateTable, reportTable, scanTable, treeRows, updateTable}
+use Rattle.gate_rules.specs.Tree.{sources, treeRefusal}
 use Rattle.gate_rules.specs.Update.{baselineText}
 
 -- ANY TABLE
