@@ -31,7 +31,7 @@ use Rattle.gate_rules.specs.ReportCall.{reportCall, reportNumber, report
 use Rattle.gate_rules.specs.Scan.{File, functionsOf}
 use Rattle.gate_rules.specs.SumLaws.{file-sum, noSum}
 use Rattle.gate_rules.specs.Table.{Fails, FewCounts, FewSums, First, LongBaseline, ManyFunctions, Row, TooShort, _if_, treeRows}
-use Rattle.gate_rules.specs.TableLaws.{answer-number, check-answer-number, check-number, exactly-zero, exported-check-first, exported-report-first, exported-scan-first, exported-update-first, part-fails, report-number, scan-number, tree-different, tree-first, update-answer-number, update-number}
+use Rattle.gate_rules.specs.TableLaws.{answer-number, check-answer-number, check-number, exactly-zero, exported-check-first, exported-report-first, exported-scan-first, exported-update-first, part-fails, past, report-number, scan-number, tree-different, tree-first, update-answer-number, update-number}
 use Rattle.gate_rules.specs.Tree.{Source, fileCount, sources, treeRefusal}
 use Rattle.gate_rules.specs.TreeLaws.{Placed, SoundTree, sources-placed, unrefused}
 use Rattle.gate_rules.specs.Update.{baselineText, recorded}
@@ -116,17 +116,6 @@ records-put tree buffer n m e =
 
 -- WHAT THE NUMBER TELLS
 
--- rows fail before a number that is none of theirs
-past : (rs qs : List Row) (n : ℕ) → All (λ r. n ≢ r .number) rs → First (rs ++ qs) n → All Fails rs
-unfolding First
-past [] qs n d f = tt
-past (r ∷ rs) qs n d (inl (h, e)) = absurd (d .0 e)
-past (r ∷ rs) qs n d (inr (h, f)) = (h, past rs qs n (d .1) f)
-
--- the next row too
-past-next : (r : Row) (qs : List Row) (n : ℕ) → n ≢ r .number → First (r ∷ qs) n → Fails r
-past-next r qs n d f = past (r ∷ []) qs n (d, tt) f .0
-
 -- a fact of every number from 1 to 7, or to 8, from that of each
 one-to-seven : (P : ℕ → Type 0) → P 1 → P 2 → P 3 → P 4 → P 5 → P 6 → P 7 → (n : ℕ) → 1 ≤ n → n ≤ 7 → P n
 one-to-seven P p₁ p₂ p₃ p₄ p₅ p₆ p₇ zero a b = absurd (omega arith)
@@ -173,29 +162,20 @@ with-eight : {n : ℕ} → (n ≡ 0) ⊎ (n ≡ 9) → (n ≡ 0) ⊎ (n ≡ 8) �
 with-eight (inl e) = inl e
 with-eight (inr e) = inr (inr e)
 
+-- a row before 8
+abbrev Early : Row → Type 0
+Early r = (1 ≤ r .number) × (r .number ≤ 7)
+
 -- A call whose table has the tree's rows, then 5, then perhaps 6 or 7, then 8, and then others
 module _ (tree work records′ : List ℕ) (short : Type 0) (fits : (short → ⊥) → length tree ≤ length work) (between behind : List Row)
-    (six-seven : All (λ r. (1 ≤ r .number) × (r .number ≤ 7)) between) (number : ℕ)
+    (six-seven : All Early between) (number : ℕ)
     (f : First (treeRows tree ++ (5 if short ∷ between) ++ (8 if ManyFunctions records′ tree ∷ behind)) number) where
   before-eight : (number ≡ 0) ⊎ (number ≡ 8) ⊎ (number ≡ 9) → All Fails (treeRows tree ++ (5 if short ∷ between))
   before-eight s =
-      let u = apart number s in
-      past (treeRows tree ++ (5 if short ∷ between)) (8 if ManyFunctions records′ tree ∷ behind) number (
-        u 1 (omega arith) (omega arith),
-        (
-          u 2 (omega arith) (omega arith),
-          (
-            u 3 (omega arith) (omega arith),
-            (
-              u 4 (omega arith) (omega arith),
-              (
-                u 5 (omega arith) (omega arith),
-                All-map _ (λ r. number ≢ r .number) (λ r h. u (r .number) (h .0) (h .1)) between six-seven,
-              ),
-            ),
-          ),
-        ),
-      )
+      let first : All Early (treeRows tree ++ (5 if short ∷ [])) = omega arith in
+      let rows = treeRows tree ++ (5 if short ∷ between) in
+      past rows (8 if ManyFunctions records′ tree ∷ behind) number
+      (All-map Early (λ r. number ≢ r .number) (λ r h. apart number s (r .number) (h .0) (h .1)) rows (All-append Early (treeRows tree ++ (5 if short ∷ [])) between first six-seven))
       f
 
   tree-sound : (number ≡ 0) ⊎ (number ≡ 8) ⊎ (number ≡ 9) → SoundTree tree
@@ -204,12 +184,15 @@ module _ (tree work records′ : List ℕ) (short : Type 0) (fits : (short → �
   work-fits : (number ≡ 0) ⊎ (number ≡ 8) ⊎ (number ≡ 9) → length tree ≤ length work
   work-fits s = fits (before-eight s .1 .1 .1 .1 .0)
 
+  eight-fails : (number ≡ 0) ⊎ (number ≡ 9) → Fails (8 if ManyFunctions records′ tree)
+  eight-fails s =
+      let rows = treeRows tree ++ (5 if short ∷ between) in
+      past (8 if ManyFunctions records′ tree ∷ []) behind number (not-eight number s, tt) (part-fails rows _ number (before-eight (with-eight s)) f) .0
+
   all-fit : (number ≡ 0) ⊎ (number ≡ 9) → length (functionsOf gate tree) ≤ room records′
   all-fit s =
-      let h : Fails (8 if ManyFunctions records′ tree) =
-      past-next (8 if ManyFunctions records′ tree) behind number (not-eight number s) (part-fails (treeRows tree ++ (5 if short ∷ between)) _ number (before-eight (with-eight s)) f) in
-      let a : 8192 < length (functionsOf gate tree) → ⊥ = λ l. h (inl l) in
-      let b : length records′ / 32 < length (functionsOf gate tree) → ⊥ = λ l. h (inr l) in
+      let a : 8192 < length (functionsOf gate tree) → ⊥ = λ l. eight-fails s (inl l) in
+      let b : length records′ / 32 < length (functionsOf gate tree) → ⊥ = λ l. eight-fails s (inr l) in
       omega arith
 
   pub scan-leaves : ScanLeft tree work records′ number (workAfter gate number tree work) (recordsAfter gate number tree records′)
@@ -364,7 +347,7 @@ module _ (L : Limits) where
 -- THE EXPORTS
 
 module _ (width : ℕ) (tree text put values work records′ output counts : List ℕ) (between behind : List Row)
-    (six-seven : All (λ r. (1 ≤ r .number) × (r .number ≤ 7)) between) (number : ℕ)
+    (six-seven : All Early between) (number : ℕ)
     (f : First (treeRows tree ++ (5 if FewCounts width work tree counts ∷ between) ++ (8 if ManyFunctions records′ tree ∷ behind)) number)
     (same : number ≡ 0 → put ≡ values) where
   exported-leaves : ExportedLeft tree text values work records′ output counts (exportedAt gate number tree text put work records′ output counts)

@@ -117,6 +117,13 @@ part-fails [] qs n k f = f
 part-fails (r ∷ rs) qs n k (inl (h, e)) = absurd (k .0 h)
 part-fails (r ∷ rs) qs n k (inr (h, f)) = part-fails rs qs n (k .1) f
 
+-- rows fail before a number that is none of theirs
+pub past : (rs qs : List Row) (n : ℕ) → All (λ r. n ≢ r .number) rs → First (rs ++ qs) n → All Fails rs
+unfolding First
+past [] qs n d f = tt
+past (r ∷ rs) qs n d (inl (h, e)) = absurd (d .0 e)
+past (r ∷ rs) qs n d (inr (h, f)) = (h, past rs qs n (d .1) f)
+
 -- THE TREE'S ROWS
 
 pub tree-first : (tree : List ℕ) → First (treeRows tree) (treeRefusal tree)
