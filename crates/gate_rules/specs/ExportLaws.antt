@@ -7,11 +7,13 @@ use native.Mathlib.Omega.{arith}
 use lib.ListN.{length, drop}
 use lib.Seq.{drop-at}
 use borrow.Author.Tests.{le-ltb, lt-ltb}
+use Rattle.text_rules.specs.Answer.{answerAt}
 use Rattle.text_rules.specs.Bytes.{_orElse_, joined}
 use Rattle.text_rules.specs.U32.{u32Bytes}
-use Rattle.source_rules.specs.BlankCall.{blankNumber}
+use Rattle.source_rules.specs.BlankCall.{blankCall, blankNumber}
 use Rattle.gate_rules.specs.Baseline.{entries}
-use Rattle.gate_rules.specs.Calls.{answerAt, blankCall, checkAnswer, checkCall, checkNumber, outputAfter, recordsAfter, scanCall, scanNumber, updateAnswer, updateCall, updateNumber, workAfter}
+use Rattle.gate_rules.specs.CallLaws.{checked-number, updated-number}
+use Rattle.gate_rules.specs.Calls.{checkAnswer, checkCall, checkNumber, outputAfter, recordsAfter, scanCall, scanNumber, updateAnswer, updateCall, updateNumber, workAfter}
 use Rattle.gate_rules.specs.Exports.{Exported, countBytes, exportNumber, exportedAt, exportedBlank, exportedCheck, exportedReport, exportedScan, exportedUpdate, ownTable}
 use Rattle.gate_rules.specs.Functions.{Limits}
 use Rattle.gate_rules.specs.Gate.{gate}
@@ -21,7 +23,7 @@ use Rattle.gate_rules.specs.Report.{FileSum}
 use Rattle.gate_rules.specs.ReportCall.{reportCall, reportNumber, reportOf}
 use Rattle.gate_rules.specs.Scan.{functionsOf}
 use Rattle.gate_rules.specs.Table.{treeRows}
-use Rattle.gate_rules.specs.TableLaws.{answer-number, at-most, check-answer-number, report-any-sums, tree-first, update-answer-number}
+use Rattle.gate_rules.specs.TableLaws.{answer-number, at-most, report-any-sums, tree-first}
 use Rattle.gate_rules.specs.Tree.{sources, treeRefusal}
 
 -- An export that ends as a call does: `number`, `work′`, `records″` and `output′` are the call's, `values` the counts of its answer.
@@ -120,7 +122,7 @@ module _ (L : Limits) where
   check-export tree baseline work records′ output counts h =
       let n = checkNumber gate L tree baseline work records′ output in
       let own = check-own tree baseline work records′ output counts h in
-      rw (check-answer-number L n)
+      rw (checked-number L n)
       (ends-as 16 tree _ _ _ work records′ output counts refl n
       (λ e. ap (λ k. let a = checkAnswer L k (entries baseline) (functionsOf gate tree) in a .written ∷ a .functions ∷ a .regressed ∷ a .stale ∷ []) own) _ own)
 
@@ -137,7 +139,7 @@ module _ (L : Limits) where
   update-export tree work records′ output counts h =
       let n = updateNumber gate L tree work records′ output in
       let own = update-own tree work records′ output counts h in
-      rw (update-answer-number L n)
+      rw (updated-number L n)
       (ends-as 12 tree _ _ _ work records′ output counts refl n
       (λ e. ap (λ k. let a = updateAnswer L k (functionsOf gate tree) in a .written ∷ a .functions ∷ a .recorded ∷ []) own) _ own)
 

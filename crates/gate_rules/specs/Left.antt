@@ -9,8 +9,9 @@ use lib.ListN.{length, take, drop, getD}
 use Rattle.text_rules.specs.Bytes.{All, joined}
 use Rattle.text_rules.specs.U32.{u32Bytes}
 use Rattle.source_rules.specs.Blank.{blanked}
+use Rattle.source_rules.specs.BlankCall.{Blanked}
 use Rattle.gate_rules.specs.Baseline.{entries}
-use Rattle.gate_rules.specs.Calls.{Blanked, Checked, Scanned, Updated}
+use Rattle.gate_rules.specs.Calls.{Checked, Scanned, Updated}
 use Rattle.gate_rules.specs.Check.{listing, regressions, stale}
 use Rattle.gate_rules.specs.Exports.{Exported}
 use Rattle.gate_rules.specs.Functions.{Limits}

@@ -8,16 +8,18 @@ use lib.Dec.{eqb}
 use lib.ListN.{length, take, drop, getD, length-append, length-map, length-take, List·getD-append}
 use lib.Seq.{getD-append-add, getD-drop, getD-take, take-all}
 use borrow.Author.Tests.{eqb-false, eqb-true}
+use Rattle.text_rules.specs.Answer.{answerAt}
 use Rattle.text_rules.specs.Bytes.{All, joined, overwritten}
 use Rattle.text_rules.specs.BytesLaws.{All-append, All-map, whether}
 use Rattle.text_rules.specs.U32.{u32Bytes}
 use Rattle.source_rules.specs.Blank.{blanked}
-use Rattle.source_rules.specs.BlankCall.{blankNumber, blankOutput}
+use Rattle.source_rules.specs.BlankCall.{blankCall, blankNumber, blankOutput}
 use Rattle.source_rules.specs.BlankLaws.{blanked-length}
 use Rattle.source_rules.specs.TextScan.{TextFun, functions}
-use Rattle.gate_rules.specs.BufferLaws.{blank-length, put-length}
 use Rattle.gate_rules.specs.Baseline.{Entry, entries}
-use Rattle.gate_rules.specs.Calls.{answerAt, blankCall, checkAnswer, checkCall, checkNumber, outputAfter, recordsAfter, room, scanCall, scanNumber, updateAnswer, updateCall, updateNumber, workAfter}
+use Rattle.gate_rules.specs.BufferLaws.{blank-length, put-length}
+use Rattle.gate_rules.specs.CallLaws.{checked-number, updated-number}
+use Rattle.gate_rules.specs.Calls.{checkAnswer, checkCall, checkNumber, outputAfter, recordsAfter, room, scanCall, scanNumber, updateAnswer, updateCall, updateNumber, workAfter}
 use Rattle.gate_rules.specs.Check.{listing, regressions, stale}
 use Rattle.gate_rules.specs.ConditionLaws.{files-count}
 use Rattle.gate_rules.specs.Exports.{countBytes, exportedAt, exportedBlank, exportedCheck, exportedReport, exportedScan, exportedUpdate}
@@ -31,7 +33,7 @@ use Rattle.gate_rules.specs.ReportCall.{reportCall, reportNumber, report
 use Rattle.gate_rules.specs.Scan.{File, functionsOf}
 use Rattle.gate_rules.specs.SumLaws.{file-sum, noSum}
 use Rattle.gate_rules.specs.Table.{Fails, FewCounts, FewSums, First, LongBaseline, ManyFunctions, Row, TooShort, _if_, treeRows}
-use Rattle.gate_rules.specs.TableLaws.{answer-number, check-answer-number, check-number, exactly-zero, exported-check-first, exported-report-first, exported-scan-first, exported-update-first, part-fails, past, report-number, scan-number, tree-different, tree-first, update-answer-number, update-number}
+use Rattle.gate_rules.specs.TableLaws.{answer-number, check-number, exactly-zero, exported-check-first, exported-report-first, exported-scan-first, exported-update-first, part-fails, past, report-number, scan-number, tree-different, tree-first, update-number}
 use Rattle.gate_rules.specs.Tree.{Source, fileCount, sources, treeRefusal}
 use Rattle.gate_rules.specs.TreeLaws.{Placed, SoundTree, sources-placed, unrefused}
 use Rattle.gate_rules.specs.Update.{baselineText, recorded}
@@ -311,10 +313,10 @@ module _ (L : Limits) where
       let number = checkNumber gate L tree baseline work records′ output in
       record {
         scan-buffers =
-            rw (check-answer-number L number)
+            rw (checked-number L number)
             (scan-leaves tree work records′ (TooShort work tree) (work-holds-tree tree work) (7 if LongBaseline baseline ∷ []) _ (omega arith) number
             (check-number L tree baseline work records′ output));
-        output-buffer = rw (check-answer-number L number) (output-leaves number (listing L (entries baseline) (functionsOf gate tree)) output);
+        output-buffer = rw (checked-number L number) (output-leaves number (listing L (entries baseline) (functionsOf gate tree)) output);
         counts = check-counts L number (entries baseline) (functionsOf gate tree);
       }
 
@@ -324,9 +326,9 @@ module _ (L : Limits) where
       let number = updateNumber gate L tree work records′ output in
       record {
         scan-buffers =
-            rw (update-answer-number L number)
+            rw (updated-number L number)
             (scan-leaves tree work records′ (TooShort work tree) (work-holds-tree tree work) [] _ tt number (update-number L tree work records′ output));
-        output-buffer = rw (update-answer-number L number) (output-leaves number (baselineText L (functionsOf gate tree)) output);
+        output-buffer = rw (updated-number L number) (output-leaves number (baselineText L (functionsOf gate tree)) output);
         counts = update-counts L number (functionsOf gate tree);
       }
 
@@ -373,11 +375,11 @@ exported-scan-left tree work records′ counts =
 module _ (L : Limits) where
   check-values : (number : ℕ) (es : List Entry) (fs : List Fun) → number ≡ 0 → let a = checkAnswer L number es fs in
       _≡_ {A = List ℕ} (a .written ∷ a .functions ∷ a .regressed ∷ a .stale ∷ []) (length (listing L es fs) ∷ length fs ∷ length (regressions L es fs) ∷ length (stale es fs) ∷ [])
-  check-values number es fs e = check-counts L number es fs .success-counts (check-answer-number L number es fs ∙ e)
+  check-values number es fs e = check-counts L number es fs .success-counts (checked-number L number es fs ∙ e)
 
   update-values : (number : ℕ) (fs : List Fun) → number ≡ 0 → let a = updateAnswer L number fs in
       _≡_ {A = List ℕ} (a .written ∷ a .functions ∷ a .recorded ∷ []) (length (baselineText L fs) ∷ length fs ∷ length (recorded L fs) ∷ [])
-  update-values number fs e = update-counts L number fs .success-counts (update-answer-number L number fs ∙ e)
+  update-values number fs e = update-counts L number fs .success-counts (updated-number L number fs ∙ e)
 
   pub exported-check-left : (tree baseline work records′ output counts : List ℕ)
       → let fs = functionsOf gate tree in

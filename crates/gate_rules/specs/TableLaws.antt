@@ -10,14 +10,16 @@ use native.Mathlib.Omega.{arith}
 use lib.Dec.{ltb}
 use lib.ListN.{length, length-map, length-replicate}
 use borrow.Author.Tests.{not-false}
+use Rattle.text_rules.specs.Answer.{answerAt}
 use Rattle.text_rules.specs.Bytes.{All, _orElse_, _when_}
-use Rattle.source_rules.specs.BlankCall.{blankNumber}
-use Rattle.gate_rules.specs.Baseline.{Entry, entries}
-use Rattle.gate_rules.specs.Calls.{answerAt, blankCall, checkAnswer, checkCall, checkNumber, room, scanCall, scanNumber, updateAnswer, updateCall, updateNumber}
+use Rattle.source_rules.specs.BlankCall.{blankCall, blankNumber}
+use Rattle.gate_rules.specs.Baseline.{entries}
+use Rattle.gate_rules.specs.CallLaws.{checked-number, updated-number}
+use Rattle.gate_rules.specs.Calls.{checkCall, checkNumber, room, scanCall, scanNumber, updateCall, updateNumber}
 use Rattle.gate_rules.specs.Check.{listing}
 use Rattle.gate_rules.specs.ConditionLaws.{Decides, files-count, layout-spelled, less-decides, not-decides, paths-spelled, room-decides, texts-spelled}
 use Rattle.gate_rules.specs.Exports.{exportNumber, exportedAt, exportedBlank, exportedCheck, exportedReport, exportedScan, exportedUpdate, ownTable}
-use Rattle.gate_rules.specs.Functions.{Fun, Limits}
+use Rattle.gate_rules.specs.Functions.{Limits}
 use Rattle.gate_rules.specs.Gate.{fileOf, gate}
 use Rattle.gate_rules.specs.Report.{FileSum}
 use Rattle.gate_rules.specs.ReportCall.{reportCall, reportNumber, reportOf}
@@ -195,14 +197,6 @@ pub answer-number : (n written functions : ℕ) → answerAt n written functions
 answer-number zero written functions = refl
 answer-number (suc n) written functions = refl
 
-pub check-answer-number : (L : Limits) (n : ℕ) (es : List Entry) (fs : List Fun) → checkAnswer L n es fs .number ≡ n
-check-answer-number L zero es fs = refl
-check-answer-number L (suc n) es fs = refl
-
-pub update-answer-number : (L : Limits) (n : ℕ) (fs : List Fun) → updateAnswer L n fs .number ≡ n
-update-answer-number L zero fs = refl
-update-answer-number L (suc n) fs = refl
-
 pub blank-first : (text output : List ℕ) → First (blankTable text output) (blankCall text output .answer .number)
 unfolding blankCall
 blank-first text output = rw (answer-number (blankNumber text output)) (blank-number text output)
@@ -214,11 +208,11 @@ scan-first tree work records = rw (answer-number (scanNumber gate tree work reco
 module _ (L : Limits) where
   pub check-first : (tree baseline work records output : List ℕ) → First (checkTable L tree baseline work records output) (checkCall gate L tree baseline work records output .answer .number)
   unfolding checkCall
-  check-first tree baseline work records output = rw (check-answer-number L (checkNumber gate L tree baseline work records output)) (check-number L tree baseline work records output)
+  check-first tree baseline work records output = rw (checked-number L (checkNumber gate L tree baseline work records output)) (check-number L tree baseline work records output)
 
   pub update-first : (tree work records output : List ℕ) → First (updateTable L tree work records output) (updateCall gate L tree work records output .answer .number)
   unfolding updateCall
-  update-first tree work records output = rw (update-answer-number L (updateNumber gate L tree work records output)) (update-number L tree work records output)
+  update-first tree work records output = rw (updated-number L (updateNumber gate L tree work records output)) (update-number L tree work records output)
 
   pub report-first : (tree work records : List ℕ) (sums : List FileSum) (output : List ℕ) → First (reportTable L tree work records sums output) (reportCall gate L tree work records sums output .answer .number)
   unfolding reportCall
