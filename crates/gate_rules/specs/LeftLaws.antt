@@ -9,7 +9,7 @@ use lib.ListN.{length, take, drop, getD, length-append, length-map, length-take,
 use lib.Seq.{getD-append-add, getD-drop, getD-take, take-all}
 use borrow.Author.Tests.{eqb-false, eqb-true}
 use Rattle.text_rules.specs.Answer.{answerAt}
-use Rattle.text_rules.specs.Bytes.{All, joined, overwritten}
+use Rattle.text_rules.specs.Bytes.{All, joined, overwritten, putAt}
 use Rattle.text_rules.specs.BytesLaws.{All-append, All-map, whether}
 use Rattle.text_rules.specs.U32.{u32Bytes}
 use Rattle.source_rules.specs.Blank.{blanked}
@@ -26,7 +26,7 @@ use Rattle.gate_rules.specs.Exports.{countBytes, exportedAt, exportedBla
 use Rattle.gate_rules.specs.Functions.{Fun, Limits}
 use Rattle.gate_rules.specs.Gate.{fileOf, gate}
 use Rattle.gate_rules.specs.Left.{BlankLeft, CheckedLeft, Counted, ExportedLeft, OutputLeft, ReportedLeft, ScanLeft, ScannedLeft, SumsLeft, SumsWritten, UpdatedLeft, WorkBlanked, firstRecords}
-use Rattle.gate_rules.specs.Records.{blankInto, putAt, recordBytes, recordOf, records, recordsIn, recordsOfFiles}
+use Rattle.gate_rules.specs.Records.{blankInto, recordBytes, recordOf, records, recordsIn, recordsOfFiles}
 use Rattle.gate_rules.specs.RecordsLaws.{record-width, records-count}
 use Rattle.gate_rules.specs.Report.{FileSum, sumsFrom}
 use Rattle.gate_rules.specs.ReportCall.{reportCall, reportNumber, reportOf, sumsAfter, sumsOf}
