@@ -1,14 +1,14 @@
 -- The conditions of the table are decided by the tests that the calls make: the layout, the paths and the texts spelled out hold exactly
 -- where `isLaidOut`, `pathsRise` and `textsGood` say so, and the orders exactly where the comparisons do.
-use Prim.Native.Nat.{ℕ, zero, suc, _+_, _*_, _/_, _≤_, _<_, min}
+use Prim.Native.Nat.{ℕ, zero, suc, _+_, _*_, _/_, _≤_, _<_}
 use mathlib.Core.Path.{_≡_, refl, ap, sym, _∙_}
-use mathlib.Core.Bool.{Bool, true, false, not, _&&_, false≢true, true≢false}
+use mathlib.Core.Bool.{Bool, true, false, not, _&&_, false≢true}
 use mathlib.Core.Logic.{_⊎_, inl, inr, _≢_, _↔_}
-use mathlib.Core.List.{List, [], _∷_, _++_}
+use mathlib.Core.List.{List, [], _∷_}
 use native.Mathlib.Omega.{arith}
-use lib.Dec.{eqb, leb, ltb}
+use lib.Dec.{ltb}
 use lib.ListN.{length, take, drop, getD, length-take, length-drop}
-use borrow.Author.Tests.{eq-eqb, eqb-false, eqb-true, le-leb, lt-ltb, ltb-false, ltb-true, ne-eqb, not-false, not-true}
+use borrow.Author.Tests.{eq-eqb, eqb-false, eqb-true, le-leb, ltb-false, ltb-true, ne-eqb, not-false, not-true}
 use Rattle.text_rules.specs.Bytes.{All, Lacks}
 use Rattle.text_rules.specs.BytesLaws.{All-map, and-left, and-right, whether}
 use Rattle.text_rules.specs.Search.{has}

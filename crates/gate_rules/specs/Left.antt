@@ -49,7 +49,7 @@ pub record ScanLeft (tree work records′ : List ℕ) (number : ℕ) (work″ re
   pub refused-records : Kept 7 number records′ records″
   pub scanned-work : (number ≡ 0) ⊎ (number ≡ 8) ⊎ (number ≡ 9) → WorkBlanked tree work work″
   pub eight-records : number ≡ 8 → records″ ≡ firstRecords (min (length (functionsOf gate tree)) (min 8192 (length records′ / 32))) tree records′
-  pub written-records : (number ≡ 0) ⊎ (number ≡ 9) → records″ ≡ firstRecords (length (functionsOf gate tree)) tree records′
+  pub written-records : (number ≡ 0) ⊎ (number ≡ 9) → records″ ≡ joined (map recordBytes (records tree)) ++ drop (32 * length (functionsOf gate tree)) records′
 
 -- an output: the text on success, and what stood beyond it; unchanged with every refusal
 pub record OutputLeft (text output : List ℕ) (number : ℕ) (output′ : List ℕ) : Type 0 where

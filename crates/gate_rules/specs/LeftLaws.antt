@@ -1,17 +1,16 @@
 -- Every call leaves what Left says, for every input.
 use Prim.Native.Nat.{ℕ, zero, suc, _+_, _-_, _*_, _/_, _≤_, _<_, min}
-use mathlib.Core.Path.{_≡_, refl, ap, ap₂, sym, _∙_, subst}
-use mathlib.Core.Bool.{true, false, _||_}
+use mathlib.Core.Path.{_≡_, refl, ap, sym, _∙_, subst}
 use mathlib.Core.Logic.{_⊎_, inl, inr, _≢_}
 use mathlib.Core.List.{List, [], _∷_, _++_, map}
 use native.Mathlib.Omega.{arith}
 use lib.Dec.{eqb}
-use lib.ListN.{length, take, drop, getD, length-append, length-drop, length-map, length-take, List·getD-append}
-use lib.Seq.{getD-append-add, getD-drop, getD-take}
-use borrow.Author.Tests.{ne-eqb}
+use lib.ListN.{length, take, drop, getD, length-append, length-map, length-take, List·getD-append}
+use lib.Seq.{getD-append-add, getD-drop, getD-take, take-all}
+use borrow.Author.Tests.{eqb-false, eqb-true}
 use Rattle.text_rules.specs.Answer.{answerAt}
-use Rattle.text_rules.specs.Bytes.{All, joined, overwritten}
-use Rattle.text_rules.specs.BytesLaws.{All-append, All-map}
+use Rattle.text_rules.specs.Bytes.{All, joined, overwritten, putAt}
+use Rattle.text_rules.specs.BytesLaws.{All-append, All-map, whether}
 use Rattle.text_rules.specs.U32.{u32Bytes}
 use Rattle.source_rules.specs.Blank.{blanked}
 use Rattle.source_rules.specs.BlankCall.{blankCall, blankNumber, blankOutput}
@@ -20,21 +19,21 @@ use Rattle.source_rules.specs.TextScan.{TextFun, functions}
 use Rattle.gate_rules.specs.Baseline.{Entry, entries}
 use Rattle.gate_rules.specs.BufferLaws.{blank-length, put-length}
 use Rattle.gate_rules.specs.CallLaws.{checked-number, updated-number}
-use Rattle.gate_rules.specs.Calls.{checkAnswer, checkCall, checkNumber, isScanned, outputAfter, recordsAfter, room, scanCall, scanNumber, updateAnswer, updateCall, updateNumber, workAfter}
+use Rattle.gate_rules.specs.Calls.{checkAnswer, checkCall, checkNumber, outputAfter, recordsAfter, room, scanCall, scanNumber, updateAnswer, updateCall, updateNumber, workAfter}
 use Rattle.gate_rules.specs.Check.{listing, regressions, stale}
 use Rattle.gate_rules.specs.ConditionLaws.{files-count}
 use Rattle.gate_rules.specs.Exports.{countBytes, exportedAt, exportedBlank, exportedCheck, exportedReport, exportedScan, exportedUpdate}
 use Rattle.gate_rules.specs.Functions.{Fun, Limits}
 use Rattle.gate_rules.specs.Gate.{fileOf, gate}
-use Rattle.gate_rules.specs.Left.{BlankLeft, CheckedLeft, Counted, ExportedLeft, OutputLeft, ReportedLeft, ScanLeft, ScannedLeft, SumsLeft, UpdatedLeft, WorkBlanked, firstRecords}
-use Rattle.gate_rules.specs.Records.{blankInto, putAt, recordBytes, recordOf, records, recordsIn, recordsOfFiles}
+use Rattle.gate_rules.specs.Left.{BlankLeft, CheckedLeft, Counted, ExportedLeft, OutputLeft, ReportedLeft, ScanLeft, ScannedLeft, SumsLeft, SumsWritten, UpdatedLeft, WorkBlanked, firstRecords}
+use Rattle.gate_rules.specs.Records.{blankInto, recordBytes, recordOf, records, recordsIn, recordsOfFiles}
 use Rattle.gate_rules.specs.RecordsLaws.{record-width, records-count}
 use Rattle.gate_rules.specs.Report.{FileSum, sumsFrom}
 use Rattle.gate_rules.specs.ReportCall.{reportCall, reportNumber, reportOf, sumsAfter, sumsOf}
 use Rattle.gate_rules.specs.Scan.{File, functionsOf}
 use Rattle.gate_rules.specs.SumLaws.{file-sum, noSum}
 use Rattle.gate_rules.specs.Table.{Fails, FewCounts, FewSums, First, LongBaseline, ManyFunctions, Row, TooShort, _if_, treeRows}
-use Rattle.gate_rules.specs.TableLaws.{answer-number, check-number, exactly-zero, exported-check-first, exported-report-first, exported-scan-first, exported-update-first, part-fails, report-number, scan-number, tree-different, tree-first, update-number}
+use Rattle.gate_rules.specs.TableLaws.{answer-number, check-number, exactly-zero, exported-check-first, exported-report-first, exported-scan-first, exported-update-first, part-fails, past, report-number, scan-number, tree-different, tree-first, update-number}
 use Rattle.gate_rules.specs.Tree.{Source, fileCount, sources, treeRefusal}
 use Rattle.gate_rules.specs.TreeLaws.{Placed, SoundTree, sources-placed, unrefused}
 use Rattle.gate_rules.specs.Update.{baselineText, recorded}
@@ -119,24 +118,34 @@ records-put tree buffer n m e =
 
 -- WHAT THE NUMBER TELLS
 
--- rows fail before a number that is none of theirs
-past : (rs qs : List Row) (n : ℕ) → All (λ r. n ≢ r .number) rs → First (rs ++ qs) n → All Fails rs
-unfolding First
-past [] qs n d f = tt
-past (r ∷ rs) qs n d (inl (h, e)) = absurd (d .0 e)
-past (r ∷ rs) qs n d (inr (h, f)) = (h, past rs qs n (d .1) f)
+-- a fact of every number from 1 to 7, or to 8, from that of each
+one-to-seven : (P : ℕ → Type 0) → P 1 → P 2 → P 3 → P 4 → P 5 → P 6 → P 7 → (n : ℕ) → 1 ≤ n → n ≤ 7 → P n
+one-to-seven P p₁ p₂ p₃ p₄ p₅ p₆ p₇ zero a b = absurd (omega arith)
+one-to-seven P p₁ p₂ p₃ p₄ p₅ p₆ p₇ (suc zero) a b = p₁
+one-to-seven P p₁ p₂ p₃ p₄ p₅ p₆ p₇ (suc (suc zero)) a b = p₂
+one-to-seven P p₁ p₂ p₃ p₄ p₅ p₆ p₇ (suc (suc (suc zero))) a b = p₃
+one-to-seven P p₁ p₂ p₃ p₄ p₅ p₆ p₇ (suc (suc (suc (suc zero)))) a b = p₄
+one-to-seven P p₁ p₂ p₃ p₄ p₅ p₆ p₇ (suc (suc (suc (suc (suc zero))))) a b = p₅
+one-to-seven P p₁ p₂ p₃ p₄ p₅ p₆ p₇ (suc (suc (suc (suc (suc (suc zero)))))) a b = p₆
+one-to-seven P p₁ p₂ p₃ p₄ p₅ p₆ p₇ (suc (suc (suc (suc (suc (suc (suc zero))))))) a b = p₇
+one-to-seven P p₁ p₂ p₃ p₄ p₅ p₆ p₇ (suc (suc (suc (suc (suc (suc (suc (suc n)))))))) a b = absurd (omega arith)
 
--- the next row too
-past-next : (r : Row) (qs : List Row) (n : ℕ) → n ≢ r .number → First (r ∷ qs) n → Fails r
-past-next r qs n d f = past (r ∷ []) qs n (d, tt) f .0
+one-to-eight : (P : ℕ → Type 0) → ((n : ℕ) → 1 ≤ n → n ≤ 7 → P n) → P 8 → (n : ℕ) → 1 ≤ n → n ≤ 8 → P n
+one-to-eight P p₇ p₈ n a b =
+    elim (whether (eqb n 8)) [
+      | inl e ↦ rw (eqb-true n 8 e) p₈
+      | inr e ↦ let m = eqb-false n 8 e in p₇ n a (omega arith)
+    ]
 
-unscanned : (n : ℕ) → 1 ≤ n → n ≤ 7 → isScanned n ≡ false
-unscanned n a b = rw (ne-eqb n 0 (λ e. omega arith), ne-eqb n 8 (λ e. omega arith), ne-eqb n 9 (λ e. omega arith))
+-- a fact of 0, 8 and 9, or of 0 and 9, from that of each
+at-scanned : (P : ℕ → Type 0) → P 0 → P 8 → P 9 → (n : ℕ) → (n ≡ 0) ⊎ (n ≡ 8) ⊎ (n ≡ 9) → P n
+at-scanned P p₀ p₈ p₉ n (inl e) = rw e p₀
+at-scanned P p₀ p₈ p₉ n (inr (inl e)) = rw e p₈
+at-scanned P p₀ p₈ p₉ n (inr (inr e)) = rw e p₉
 
-scanned : (n : ℕ) → (n ≡ 0) ⊎ (n ≡ 8) ⊎ (n ≡ 9) → isScanned n ≡ true
-scanned n (inl e) = rw e
-scanned n (inr (inl e)) = rw e
-scanned n (inr (inr e)) = rw e
+at-listed : (P : ℕ → Type 0) → P 0 → P 9 → (n : ℕ) → (n ≡ 0) ⊎ (n ≡ 9) → P n
+at-listed P p₀ p₉ n (inl e) = rw e p₀
+at-listed P p₀ p₉ n (inr e) = rw e p₉
 
 sound : (tree : List ℕ) → All Fails (treeRows tree) → SoundTree tree
 sound tree h = unrefused tree (exactly-zero (treeRows tree) (tree-different tree) (treeRefusal tree) (tree-first tree) .1 h)
@@ -155,29 +164,20 @@ with-eight : {n : ℕ} → (n ≡ 0) ⊎ (n ≡ 9) → (n ≡ 0) ⊎ (n ≡ 8) �
 with-eight (inl e) = inl e
 with-eight (inr e) = inr (inr e)
 
+-- a row before 8
+abbrev Early : Row → Type 0
+Early r = (1 ≤ r .number) × (r .number ≤ 7)
+
 -- A call whose table has the tree's rows, then 5, then perhaps 6 or 7, then 8, and then others
 module _ (tree work records′ : List ℕ) (short : Type 0) (fits : (short → ⊥) → length tree ≤ length work) (between behind : List Row)
-    (six-seven : All (λ r. (1 ≤ r .number) × (r .number ≤ 7)) between) (number : ℕ)
+    (six-seven : All Early between) (number : ℕ)
     (f : First (treeRows tree ++ (5 if short ∷ between) ++ (8 if ManyFunctions records′ tree ∷ behind)) number) where
   before-eight : (number ≡ 0) ⊎ (number ≡ 8) ⊎ (number ≡ 9) → All Fails (treeRows tree ++ (5 if short ∷ between))
   before-eight s =
-      let u = apart number s in
-      past (treeRows tree ++ (5 if short ∷ between)) (8 if ManyFunctions records′ tree ∷ behind) number (
-        u 1 (omega arith) (omega arith),
-        (
-          u 2 (omega arith) (omega arith),
-          (
-            u 3 (omega arith) (omega arith),
-            (
-              u 4 (omega arith) (omega arith),
-              (
-                u 5 (omega arith) (omega arith),
-                All-map _ (λ r. number ≢ r .number) (λ r h. u (r .number) (h .0) (h .1)) between six-seven,
-              ),
-            ),
-          ),
-        ),
-      )
+      let first : All Early (treeRows tree ++ (5 if short ∷ [])) = omega arith in
+      let rows = treeRows tree ++ (5 if short ∷ between) in
+      past rows (8 if ManyFunctions records′ tree ∷ behind) number
+      (All-map Early (λ r. number ≢ r .number) (λ r h. apart number s (r .number) (h .0) (h .1)) rows (All-append Early (treeRows tree ++ (5 if short ∷ [])) between first six-seven))
       f
 
   tree-sound : (number ≡ 0) ⊎ (number ≡ 8) ⊎ (number ≡ 9) → SoundTree tree
@@ -186,28 +186,37 @@ module _ (tree work records′ : List ℕ) (short : Type 0) (fits : (short → �
   work-fits : (number ≡ 0) ⊎ (number ≡ 8) ⊎ (number ≡ 9) → length tree ≤ length work
   work-fits s = fits (before-eight s .1 .1 .1 .1 .0)
 
+  eight-fails : (number ≡ 0) ⊎ (number ≡ 9) → Fails (8 if ManyFunctions records′ tree)
+  eight-fails s =
+      let rows = treeRows tree ++ (5 if short ∷ between) in
+      past (8 if ManyFunctions records′ tree ∷ []) behind number (not-eight number s, tt) (part-fails rows _ number (before-eight (with-eight s)) f) .0
+
   all-fit : (number ≡ 0) ⊎ (number ≡ 9) → length (functionsOf gate tree) ≤ room records′
   all-fit s =
-      let h : Fails (8 if ManyFunctions records′ tree) =
-      past-next (8 if ManyFunctions records′ tree) behind number (not-eight number s) (part-fails (treeRows tree ++ (5 if short ∷ between)) _ number (before-eight (with-eight s)) f) in
-      let a : 8192 < length (functionsOf gate tree) → ⊥ = λ l. h (inl l) in
-      let b : length records′ / 32 < length (functionsOf gate tree) → ⊥ = λ l. h (inr l) in
+      let a : 8192 < length (functionsOf gate tree) → ⊥ = λ l. eight-fails s (inl l) in
+      let b : length records′ / 32 < length (functionsOf gate tree) → ⊥ = λ l. eight-fails s (inr l) in
       omega arith
 
   pub scan-leaves : ScanLeft tree work records′ number (workAfter gate number tree work) (recordsAfter gate number tree records′)
   unfolding workAfter recordsAfter gate
   scan-leaves =
       record {
-        refused-work = λ a b. rw (unscanned number a b);
-        refused-records = λ a b. rw (unscanned number a b);
-        scanned-work = λ s. rw (scanned number s) (work-blanked tree work (tree-sound s) (work-fits s));
+        refused-work = one-to-seven (λ n. workAfter gate n tree work ≡ work) refl refl refl refl refl refl refl number;
+        refused-records = one-to-seven (λ n. recordsAfter gate n tree records′ ≡ records′) refl refl refl refl refl refl refl number;
+        scanned-work = λ s.
+            let there = work-blanked tree work (tree-sound s) (work-fits s) in
+            at-scanned (λ n. WorkBlanked tree work (workAfter gate n tree work)) there there there number s;
         eight-records = λ e.
             let count = records-count tree (tree-sound (inr (inl e))) in
-            rw (scanned number (inr (inl e))) (records-put tree records′ (room records′) (min (length (functionsOf gate tree)) (room records′)) (omega arith));
+            let first = min (length (functionsOf gate tree)) (room records′) in
+            subst (λ n. recordsAfter gate n tree records′ ≡ firstRecords first tree records′) (sym e) (records-put tree records′ (room records′) first (omega arith));
         written-records = λ s.
             let count = records-count tree (tree-sound (with-eight s)) in
             let fit = all-fit s in
-            rw (scanned number (with-eight s)) (records-put tree records′ (room records′) (length (functionsOf gate tree)) (omega arith));
+            let all = length (functionsOf gate tree) in
+            let whole : take all (records tree) ≡ records tree = take-all all (records tree) (omega arith) in
+            let there = records-put tree records′ (room records′) all (omega arith) ∙ ap (λ rs. joined (map recordBytes rs) ++ drop (32 * all) records′) whole in
+            at-listed (λ n. recordsAfter gate n tree records′ ≡ joined (map recordBytes (records tree)) ++ drop (32 * all) records′) there there number s;
       }
 
 -- OUTPUT, SUMS, COUNTS
@@ -220,13 +229,6 @@ output-leaves-as (suc n) text text′ output h = record { refused-output = λ l.
 pub output-leaves : (number : ℕ) (text output : List ℕ) → OutputLeft text output number (outputAfter number text output)
 output-leaves number text output = output-leaves-as number text text output (λ e. refl)
 
-unsummed : (n : ℕ) → 1 ≤ n → n ≤ 8 → (eqb n 0 || eqb n 9) ≡ false
-unsummed n a b = rw (ne-eqb n 0 (λ e. omega arith), ne-eqb n 9 (λ e. omega arith))
-
-summed : (n : ℕ) → (n ≡ 0) ⊎ (n ≡ 9) → (eqb n 0 || eqb n 9) ≡ true
-summed n (inl e) = rw e
-summed n (inr e) = rw e
-
 sums-length : (functionsIn : List File → List Fun) (n : ℕ) (files : List File) → length (sumsFrom functionsIn n files) ≡ length files
 unfolding sumsFrom
 sums-length functionsIn n [] = refl
@@ -236,19 +238,24 @@ sums-count : (tree : List ℕ) → length (sumsOf gate tree) ≡ length (sources
 unfolding sumsOf gate
 sums-count tree = sums-length (gate .functionsIn) 0 (gate .files tree) ∙ length-map (sources tree) fileOf
 
-sums-leave : (tree : List ℕ) (sums : List FileSum) (number : ℕ) → SumsLeft tree sums number (sumsAfter gate number tree sums)
-unfolding sumsAfter fileCount
-sums-leave tree sums number =
+sums-written : (tree : List ℕ) (sums : List FileSum) → SumsWritten tree sums (overwritten (sumsOf gate tree) sums)
+unfolding fileCount
+sums-written tree sums =
     record {
-      refused-sums = λ a b. rw (unsummed number a b);
-      written-sums = λ s.
-          rw (summed number s)
-          (record {
-            written = ap (λ k. sumsOf gate tree ++ drop k sums) (sums-count tree);
-            each = λ k h.
-                List·getD-append (sumsOf gate tree) (drop (length (sumsOf gate tree)) sums) noSum k (omega (arith, sums-count tree))
-                ∙ file-sum tree k (omega (arith, files-count tree));
-          });
+      written = ap (λ k. sumsOf gate tree ++ drop k sums) (sums-count tree);
+      each = λ k h.
+          List·getD-append (sumsOf gate tree) (drop (length (sumsOf gate tree)) sums) noSum k (omega (arith, sums-count tree))
+          ∙ file-sum tree k (omega (arith, files-count tree));
+    }
+
+sums-leave : (tree : List ℕ) (sums : List FileSum) (number : ℕ) → SumsLeft tree sums number (sumsAfter gate number tree sums)
+unfolding sumsAfter
+sums-leave tree sums number =
+    let same : ℕ → Type 0 = λ n. sumsAfter gate n tree sums ≡ sums in
+    let there = sums-written tree sums in
+    record {
+      refused-sums = one-to-eight same (one-to-seven same refl refl refl refl refl refl refl) refl number;
+      written-sums = at-listed (λ n. SumsWritten tree sums (sumsAfter gate n tree sums)) there there number;
     }
 
 answer-counts : (number written functions : ℕ) → let a = answerAt number written functions in Counted (written ∷ functions ∷ []) (a .number) (a .written ∷ a .functions ∷ [])
@@ -342,7 +349,7 @@ module _ (L : Limits) where
 -- THE EXPORTS
 
 module _ (width : ℕ) (tree text put values work records′ output counts : List ℕ) (between behind : List Row)
-    (six-seven : All (λ r. (1 ≤ r .number) × (r .number ≤ 7)) between) (number : ℕ)
+    (six-seven : All Early between) (number : ℕ)
     (f : First (treeRows tree ++ (5 if FewCounts width work tree counts ∷ between) ++ (8 if ManyFunctions records′ tree ∷ behind)) number)
     (same : number ≡ 0 → put ≡ values) where
   exported-leaves : ExportedLeft tree text values work records′ output counts (exportedAt gate number tree text put work records′ output counts)

@@ -1,6 +1,6 @@
--- The table of refusals, as a table: for each call its rows in the order in which they are tested, each a number and the condition on the
--- inputs. The conditions are stated in numbers, without a test of the calls' definitions, so that they can be read by themselves.
--- TableLaws proves that every call answers with the number of the first row whose condition holds, and with 0 where none does.
+-- The table of refusals, as a table: for each call its rows in the order in which they are tested, each a number and its condition.
+-- The conditions are spelled out with the numbers of the rules; of the definitions they use the files of a tree and their functions, the
+-- listings, UTF-8 and the order of paths. TableLaws proves that every call answers by its table.
 use Prim.Native.Nat.{ℕ, zero, suc, _+_, _*_, _/_, _≤_, _<_}
 use mathlib.Core.Path.{_≡_}
 use mathlib.Core.Bool.{true}

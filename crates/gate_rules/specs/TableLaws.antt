@@ -1,9 +1,9 @@
 -- Every call answers as its table says: the number is that of the first row whose condition holds, and 0 where none does, for every input.
 -- So each number is returned exactly when its own condition holds and those of the rows before it fail, and a call succeeds whenever the
 -- tree is accepted and the lent buffers suffice.
-use Prim.Native.Nat.{ℕ, zero, suc, _+_, _*_, _/_, _≤_, _<_}
-use mathlib.Core.Path.{_≡_, refl, ap, sym, _∙_}
-use mathlib.Core.Bool.{Bool, true, false, not}
+use Prim.Native.Nat.{ℕ, zero, suc, _*_, _≤_, _<_}
+use mathlib.Core.Path.{_≡_, refl, sym, _∙_}
+use mathlib.Core.Bool.{Bool, true, false}
 use mathlib.Core.Logic.{_⊎_, inl, inr, ⊎-elim, _≢_, _↔_}
 use mathlib.Core.List.{List, [], _∷_, _++_}
 use native.Mathlib.Omega.{arith}
@@ -118,6 +118,13 @@ unfolding First
 part-fails [] qs n k f = f
 part-fails (r ∷ rs) qs n k (inl (h, e)) = absurd (k .0 h)
 part-fails (r ∷ rs) qs n k (inr (h, f)) = part-fails rs qs n (k .1) f
+
+-- rows fail before a number that is none of theirs
+pub past : (rs qs : List Row) (n : ℕ) → All (λ r. n ≢ r .number) rs → First (rs ++ qs) n → All Fails rs
+unfolding First
+past [] qs n d f = tt
+past (r ∷ rs) qs n d (inl (h, e)) = absurd (d .0 e)
+past (r ∷ rs) qs n d (inr (h, f)) = (h, past rs qs n (d .1) f)
 
 -- THE TREE'S ROWS
 

@@ -4,7 +4,7 @@ use mathlib.Core.Path.{_≡_, refl, sym, _∙_}
 use native.Mathlib.Omega.{arith}
 use lib.ListN.{length, drop}
 use Rattle.text_rules.specs.Search.{startsWith}
-use Rattle.text_rules.specs.SearchSteps.{starts-more, starts-other, starts-short, starts-whole}
+use Rattle.text_rules.specs.StartsLaws.{starts-more, starts-other, starts-short, starts-whole}
 use Rattle.search.proofs.begins.Statement.{statement}
 use Rattle.search.proofs.begins.Tie as tie
 

@@ -24,10 +24,14 @@ returns c =
     let f = c .before .before in
     let l = f .before .before .before in
     sym (body-step (l .before .before .args .s .now) (l .loop .at) (omega arith) (l .loop .angle) (l .loop .opened) (l .loop .closed)
-      ∙ rw (sym (f .is-flat .ensures) ∙ c .before .if1 .taken, eq-eqb _ 123 (c .if2 .taken))) ∙ l .loop .inv .1 .1 .1
+      ∙ rw (sym (f .is-flat .ensures) ∙ c .before .if1 .taken, eq-eqb _ 123 (c .if2 .taken))) ∙ l .loop .inv .3
 
 returns-2 : tie.Need-returns-2 Inv-loop μ-loop
-returns-2 c = ?
+returns-2 c =
+    let f = c .before .before .before in
+    let l = f .before .before .before in
+    sym (body-step (l .before .before .args .s .now) (l .loop .at) (omega arith) (l .loop .angle) (l .loop .opened) (l .loop .closed)
+      ∙ rw (sym (f .is-flat .ensures) ∙ c .before .before .if1 .taken, ne-eqb _ 123 (c .before .if2 .left), eq-eqb _ 59 (c .if3 .taken))) ∙ l .loop .inv .3
 
 loop-again : tie.Need-loop-again Inv-loop μ-loop
 loop-again c = ?
@@ -35,7 +39,7 @@ loop-again c = ?
 returns-3 : tie.Need-returns-3 Inv-loop μ-loop
 returns-3 c =
     let l = c .before in
-    sym (body-end (l .before .before .args .s .now) (l .loop .at) (omega arith) (l .loop .angle) (l .loop .opened) (l .loop .closed)) ∙ l .loop .inv .1 .1 .1
+    sym (body-end (l .before .before .args .s .now) (l .loop .at) (omega arith) (l .loop .angle) (l .loop .opened) (l .loop .closed)) ∙ l .loop .inv .3
 
 pub body-open-spec : {M : Type 1} → statement M
 body-open-spec =

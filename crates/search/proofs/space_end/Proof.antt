@@ -7,7 +7,7 @@ use borrow.Author.Needs.{needs}
 use lib.ListN.{length, drop}
 use Rattle.text_rules.specs.Classes.{isSpace}
 use Rattle.text_rules.specs.Search.{run}
-use Rattle.text_rules.specs.SearchSteps.{run-end, run-more, run-stop}
+use Rattle.text_rules.specs.ScanLaws.{run-end, run-more, run-stop}
 use Rattle.search.proofs.space_end.Statement.{statement}
 use Rattle.search.proofs.space_end.Tie as tie
 
@@ -20,17 +20,17 @@ abbrev μ-loop : tie.MeasureT-loop
 returns : tie.Need-returns Inv-loop μ-loop
 returns c =
     let l = c .before .before .before .before in
-    omega (arith, run-stop isSpace (l .before .before .args .s .now) (l .loop .at) (omega arith) (sym (c .before .is-space .ensures) ∙ not-true _ (c .if1 .taken)))
+    omega (arith, run-stop (l .before .before .args .s .now) (l .loop .at) (omega arith) isSpace (sym (c .before .is-space .ensures) ∙ not-true _ (c .if1 .taken)))
 
 loop-again : tie.Need-loop-again Inv-loop μ-loop
 loop-again c =
     let l = c .before .before .before .before in
-    omega (arith, run-more isSpace (l .before .before .args .s .now) (l .loop .at) (omega arith) (sym (c .before .is-space .ensures) ∙ not-false _ (c .if1 .left)))
+    omega (arith, run-more (l .before .before .args .s .now) (l .loop .at) (omega arith) isSpace (sym (c .before .is-space .ensures) ∙ not-false _ (c .if1 .left)))
 
 returns-2 : tie.Need-returns-2 Inv-loop μ-loop
 returns-2 c =
     let l = c .before in
-    omega (arith, run-end isSpace (l .before .before .args .s .now) (l .loop .at) (omega arith))
+    omega (arith, run-end (l .before .before .args .s .now) (l .loop .at) isSpace (omega arith))
 
 pub space-end-spec : {M : Type 1} → statement M
 space-end-spec =

@@ -1,8 +1,8 @@
--- One step of a run and of a comparison with given bytes at a place of a text, and their ends: what a loop over a slice cites.
-use Prim.Native.Nat.{ℕ, suc, _+_, _≤_, _<_}
-use mathlib.Core.Path.{_≡_, ap, sym, _∙_}
+-- A text compared with a word at a place, one byte a step: what a loop over both cites.
+use Prim.Native.Nat.{ℕ, _+_, _≤_, _<_}
+use mathlib.Core.Path.{_≡_, ap}
 use mathlib.Core.Logic.{_≢_}
-use mathlib.Core.Bool.{Bool, true, false, _&&_}
+use mathlib.Core.Bool.{true, false, _&&_}
 use mathlib.Core.List.{List, [], _∷_}
 use native.Mathlib.Numerals.{add-one}
 use native.Mathlib.Omega.{arith}
@@ -11,21 +11,7 @@ use lib.Dec.{eqb}
 use lib.ListN.{length, drop, getD, drop-of-length-le}
 use lib.Seq.{drop-cons}
 use Rattle.text_rules.specs.BytesLaws.{and-right}
-use Rattle.text_rules.specs.Search.{run, startsWith}
-
--- a run at a place: one byte more, or none
-module _ (f : ℕ → Bool) (s : List ℕ) (at : ℕ) where
-  pub run-more : at < length s → f (getD s at 0) ≡ true → run f (drop at s) ≡ run f (drop (at + 1) s) + 1
-  unfolding run
-  run-more h e = rw (add-one (run f (drop (at + 1) s)), add-one at, drop-cons s at 0 h, e, run)
-
-  pub run-stop : at < length s → f (getD s at 0) ≡ false → run f (drop at s) ≡ 0
-  unfolding run
-  run-stop h e = rw (drop-cons s at 0 h, e, run)
-
-  pub run-end : length s ≤ at → run f (drop at s) ≡ 0
-  unfolding run
-  run-end h = ap (run f) (drop-of-length-le s h)
+use Rattle.text_rules.specs.Search.{startsWith}
 
 -- the bytes of a word from a place on, against those of a text
 module _ (word s : List ℕ) (i at : ℕ) where
