@@ -139,11 +139,11 @@ function-moved n from to s =
     let t = drop n s in
     then-moved n (find roundOpen to (drop to t)) _ (afterOpened s (n + from) (n + to)) (afterOpened t from to) (find-rest n s roundOpen to)
     λ opened. then-moved n (partner roundOpen roundClose 0 (suc opened) (drop (suc opened) t)) _
-      (afterList s (n + from) (n + to) (n + opened)) (afterList t from to opened) (partner-rest n s roundOpen roundClose opened)
+    (afterList s (n + from) (n + to) (n + opened)) (afterList t from to opened) (partner-rest n s roundOpen roundClose opened)
     λ closed. then-moved n (bodyAt 0 0 0 (suc closed) (drop (suc closed) t)) _
-      (afterBody s (n + from) (n + to) (n + opened) (n + closed)) (afterBody t from to opened closed) (body-rest n s closed)
+    (afterBody s (n + from) (n + to) (n + opened) (n + closed)) (afterBody t from to opened closed) (body-rest n s closed)
     λ body. then-moved n (partner braceOpen braceClose 0 (suc body) (drop (suc body) t)) _
-      (afterEnd (n + from) (n + to) (n + opened) (n + closed) (n + body)) (afterEnd from to opened closed body) (partner-rest n s braceOpen braceClose body)
+    (afterEnd (n + from) (n + to) (n + opened) (n + closed) (n + body)) (afterEnd from to opened closed body) (partner-rest n s braceOpen braceClose body)
     λ end. all-moved n from to opened closed body end
 
 -- the first x from a place on is the first from every later place up to it; where there is none, there is none later

@@ -32,8 +32,7 @@ returns c =
 loop-again-2 : tie.Need-loop-again-2 Inv-loop μ-loop
 loop-again-2 c =
     let l = c .before .before .before .before .before in
-    let a = l .before .args in
-    (
+    let a = l .before .args in (
       omega arith,
       sym (partner-close (a .s .now) (l .loop .at) (omega arith) (a .opening) (a .closing) (l .loop .depth) (l .before .pre) (c .before .if2 .taken) (c .if3 .left)) ∙ l .loop .inv .1,
     )
