@@ -70,10 +70,10 @@ fn angle_after(b: u8, angle: usize) -> usize
         return angle + 1;
     }
     if b == b'>' {
-        if angle == 0 {
-            return 0;
+        if 0 < angle {
+            return angle - 1;
         }
-        return angle - 1;
+        return 0;
     }
     angle
 }
