@@ -2,12 +2,12 @@
 ghost use mathlib.Core.Path.{_≡_};
 ghost use mathlib.Core.Bool.{_||_};
 ghost use mathlib.Core.List.{[], _∷_};
-ghost use Prim.Native.Nat.{_+_, _-_, _≤_, _<_, max, pred};
+ghost use Prim.Native.Nat.{_+_, _-_, _≤_, _<_, max};
 ghost use lib.Dec.{eqb};
-ghost use lib.ListN.{length, getD, drop};
+ghost use lib.ListN.{length, drop};
 ghost use Rattle.text_rules.specs.Bytes.{among, ascii, same};
-ghost use Rattle.text_rules.specs.Classes.{ampersand, comma, isWord, space};
-ghost use Rattle.text_rules.specs.Search.{endsIn, run, startsWith};
+ghost use Rattle.text_rules.specs.Classes.{isWord};
+ghost use Rattle.text_rules.specs.Search.{run, startsWith};
 ghost use Rattle.source_rules.specs.Measures.{cyclomaticOf, isPair};
 ghost use Rattle.source_rules.specs.Parameters.{counted, isClosing, isOpening, one, paramsOf, partsFrom, takesSelf};
 ghost use Rattle.measures.specs.Walks.{Measured, PieceAt, Shaped, head};
@@ -49,8 +49,8 @@ fn parts(s: &[u8]) -> usize
     ensures { λ r. ⌜ r ≡ partsFrom 1 0 0 (now (s .entry)) ⌝ }
 {
     let mut n = 1;
-    let mut opened = 0;
-    let mut closed = 0;
+    let mut opened: usize = 0;
+    let mut closed: usize = 0;
     let mut at = 0;
     while at < s.len() {
         let b = s[at];
@@ -146,7 +146,7 @@ fn larger(a: usize, b: usize) -> usize
 }
 
 // The nesting and the lines of a body. A brace that closes nothing leaves the depth at 0.
-fn shape(body: &[u8]) -> Shape
+fn shape_of(body: &[u8]) -> Shape
     ensures { λ r. ⌜ Shaped r (now (body .entry)) ⌝ }
 {
     let mut depth = 0;
@@ -239,7 +239,7 @@ struct Piece {
 }
 
 // The piece at a place.
-fn piece(body: &[u8], at: usize) -> Piece
+fn piece_at(body: &[u8], at: usize) -> Piece
     requires { ⌜ at < length (now body) ⌝ }
     ensures { λ r. ⌜ PieceAt (now (body .entry)) at r ⌝ }
 {
@@ -270,7 +270,7 @@ fn cyclomatic(body: &[u8]) -> usize
     let mut n = 1;
     let mut at = 0;
     while at < body.len() {
-        let p = piece(body, at);
+        let p = piece_at(body, at);
         at = p.end;
         if p.decides {
             n += 1;
@@ -290,7 +290,7 @@ pub fn walk(body: &[u8]) -> Walked
     ensures { λ r. ⌜ Measured r (now (body .entry)) ⌝ }
 {
     let n = cyclomatic(body);
-    let s = shape(body);
+    let s = shape_of(body);
     Walked {
         cyclomatic: n,
         nesting: s.nesting,
