@@ -6,13 +6,13 @@ use mathlib.Core.Bool.{true, false, _&&_}
 use mathlib.Core.List.{List, [], _∷_}
 use native.Mathlib.Numerals.{add-one}
 use native.Mathlib.Omega.{arith}
-use lib.Dec.{leb, lit≤, ltb}
+use lib.Dec.{lit≤, ltb}
 use lib.ListN.{List·getD-eq-default, drop, drop-of-length-le, getD, length}
 use lib.Seq.{drop-cons}
 use borrow.Author.Tests.{leb-true, lt-leb, ltb-false, ltb-true}
 use Rattle.text_rules.specs.BytesLaws.{and-left, whether}
 use Rattle.text_rules.specs.SearchLaws.{in-text}
-use Rattle.text_rules.specs.Utf8.{Range, _to_, follow, goOn, isUtf8, wellFormedAfter, within}
+use Rattle.text_rules.specs.Utf8.{Range, _to_, goOn, isUtf8, wellFormedAfter, within}
 use Rattle.text_rules.specs.Utf8Cuts.{ascii-first}
 use Rattle.utf8.specs.Awaits.{Character, Row, rowOf, tails}
 use Rattle.utf8.specs.declared.Awaited.{Awaited}

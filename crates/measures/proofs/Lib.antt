@@ -1,0 +1,4 @@
+-- Laws that the proofs of several functions cite.
+mod Places
+mod List
+mod Body
