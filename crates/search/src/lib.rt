@@ -79,7 +79,7 @@ fn angle_after(b: u8, angle: usize) -> usize
 }
 
 // How many bytes are `x`, behind the byte `b`.
-fn count_after(x: u8, b: u8, n: usize) -> usize
+pub fn count_after(x: u8, b: u8, n: usize) -> usize
     requires { ⌜ n < 18446744073709551615 ⌝ }
     ensures { λ r. ⌜ (r ≡ countAfter x b n) × (r ≤ n + 1) ⌝ }
 {

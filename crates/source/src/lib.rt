@@ -2,6 +2,12 @@
 // The text is gone through byte by byte, bodies and test spans included: a test span may begin inside a body and reach past it, so no body is
 // jumped over.
 use search::Place;
+ghost use mathlib.Core.Path.{_≡_};
+ghost use mathlib.Core.List.{List};
+ghost use Prim.Native.Nat.{ℕ, _+_, _≤_, _<_};
+ghost use lib.ListN.{length};
+ghost use Rattle.source_rules.specs.TextScan.{functions};
+ghost use Rattle.source.specs.Cursors.{Barren, Closed, FoundAt, Measures, Ready, Signed, SpanAt, Stepped, Turned, remaining};
 
 // Where the search for functions stands in a text.
 pub struct Cursor {
@@ -11,9 +17,11 @@ pub struct Cursor {
     // the end of the last test span, and of the last body
     pub span_end: usize,
     pub resume: usize,
-    // what was sought in vain is not sought again: from `at` up to these places no test span begins, and no name ends that a function has
+    // What was sought in vain is not sought again: no test span begins from `at` up to the first place, and no name that ends from the second
+    // up to the third is a function's.
     pub spanless: usize,
-    pub listless: usize,
+    pub barren_from: usize,
+    pub barren_to: usize,
 }
 
 // A function: where its name stands in the text, and what is measured.
@@ -27,6 +35,7 @@ pub struct Found {
     pub params: usize,
 }
 
+// A function and the cursor behind it, or the end of the text.
 pub enum Step {
     Function(Found, Cursor),
     End,
@@ -40,19 +49,19 @@ struct Brackets {
     end: usize,
 }
 
-// What follows a name: all four brackets; or not all, and then neither after any other name that ends before the place.
+// What follows a name: all four brackets; or not all, and then neither after any other name that ends from there up to the given place.
 enum Signature {
     Whole(Brackets),
     Broken(usize),
 }
 
-// What a word `fn` begins: a function, and where its body ends; or none, with the place up to which no name that ends there has one.
+// What a word `fn` begins: a function, and where its body ends; or none, with the places between which no name that ends is a function's.
 enum Measure {
-    Function(Found, usize),
-    Nothing(usize),
+    Counted(Found, usize),
+    Nothing(usize, usize),
 }
 
-// The test span at a byte: its end, no further than the byte where there is none, and the place up to which none begins.
+// The test span at a byte: its end, no further than the byte where there is none; and the place up to which none begins.
 struct Span {
     end: usize,
     spanless: usize,
@@ -60,12 +69,14 @@ struct Span {
 
 // One byte further, with a function or without.
 enum Turn {
-    Found(Found, Cursor),
+    Yield(Found, Cursor),
     Past(Cursor),
 }
 
 // The brackets after a name that ends at `to`.
-fn signature(s: &[u8], to: usize) -> Signature {
+fn signature_at(s: &[u8], to: usize) -> Signature
+    ensures { λ r. ⌜ Signed (now (s .entry)) to r ⌝ }
+{
     let Place::At(opened) = search::find(s, b'(', to) else {
         return Signature::Broken(s.len());
     };
@@ -87,7 +98,10 @@ fn signature(s: &[u8], to: usize) -> Signature {
 }
 
 // The function on a line whose name stands from one place up to another.
-fn found(s: &[u8], line: usize, from: usize, to: usize, b: Brackets) -> Found {
+fn found_at(s: &[u8], line: usize, from: usize, to: usize, b: Brackets) -> Found
+    requires { ⌜ (from ≤ to) × Closed (now s) to b ⌝ }
+    ensures { λ r. ⌜ FoundAt (now (s .entry)) line from to b r ⌝ }
+{
     let params_from = b.opened + 1;
     let params_to = b.closed;
     let params = measures::count_params(&s[params_from..params_to]);
@@ -105,54 +119,68 @@ fn found(s: &[u8], line: usize, from: usize, to: usize, b: Brackets) -> Found {
     }
 }
 
-// The function whose `fn` stands at a place.
-fn measure(s: &[u8], at: usize, line: usize, listless: usize) -> Measure {
-    let from = search::space_end(s, at + 2);
-    let to = search::word_end(s, from);
-    if to == from {
-        // `fn(u8) -> u8` is a type, not a definition.
-        return Measure::Nothing(listless);
-    }
-    if to < listless {
-        return Measure::Nothing(listless);
-    }
-    let g = signature(s, to);
-    match g {
-        Signature::Broken(n) => Measure::Nothing(n),
-        Signature::Whole(b) => Measure::Function(found(s, line, from, to, b), b.end + 1),
-    }
-}
-
-pub fn start() -> Cursor {
+pub fn start() -> Cursor
+    ensures { λ r. ⌜ ((s : List ℕ) → Ready s r × (remaining s r ≡ functions s)) ⌝ }
+{
     Cursor {
         at: 0,
         line: 1,
         span_end: 0,
         resume: 0,
         spanless: 0,
-        listless: 0,
+        barren_from: 0,
+        barren_to: 0,
     }
 }
 
 impl Cursor {
+    // The function whose `fn` stands at the next byte.
+    fn measure(self, s: &[u8]) -> Measure
+        requires { ⌜ (self .at + 2 ≤ length (now s)) × Barren (now s) (self .«barren_from») (self .«barren_to») ⌝ }
+        ensures { λ r. ⌜ Measures (now (s .entry)) self r ⌝ }
+    {
+        let from = search::space_end(s, self.at + 2);
+        let to = search::word_end(s, from);
+        // `fn(u8) -> u8` is a type, not a definition.
+        if to == from {
+            return Measure::Nothing(self.barren_from, self.barren_to);
+        }
+        if self.barren_from <= to {
+            if to < self.barren_to {
+                return Measure::Nothing(self.barren_from, self.barren_to);
+            }
+        }
+        let g = signature_at(s, to);
+        match g {
+            Signature::Broken(n) => Measure::Nothing(to, n),
+            Signature::Whole(b) => {
+                let end = b.end + 1;
+                Measure::Counted(found_at(s, self.line, from, to, b), end)
+            }
+        }
+    }
+
     // The test span at the next byte: the one that is open, or one that begins there.
-    fn span_at(self, s: &[u8]) -> Span {
+    fn span_at(self, s: &[u8]) -> Span
+        requires { ⌜ (self .at < length (now s)) × Ready (now s) self ⌝ }
+        ensures { λ r. ⌜ SpanAt (now (s .entry)) self r ⌝ }
+    {
         let at = self.at;
-        let none = Span {
+        let same = Span {
             end: self.span_end,
             spanless: self.spanless,
         };
         if at < self.span_end {
-            return none;
+            return same;
         }
         if s[at] != b'#' {
-            return none;
+            return same;
         }
         if at < self.spanless {
-            return none;
+            return same;
         }
         if !search::test_mark(s, at) {
-            return none;
+            return same;
         }
         let Place::At(opened) = search::find(s, b'{', at) else {
             return Span {
@@ -173,23 +201,22 @@ impl Cursor {
     }
 
     // Past the next byte.
-    fn past(self, b: u8, span: Span) -> Cursor {
-        let line = if b == b'\n' { self.line + 1 } else { self.line };
-        Cursor {
-            at: self.at + 1,
-            line,
-            span_end: span.end,
-            resume: self.resume,
-            spanless: span.spanless,
-            listless: self.listless,
-        }
-    }
-
-    fn turn(self, s: &[u8]) -> Turn {
+    fn turn_at(self, s: &[u8]) -> Turn
+        requires { ⌜ (self .at < length (now s)) × Ready (now s) self ⌝ }
+        ensures { λ r. ⌜ Turned (now (s .entry)) self r ⌝ }
+    {
         let at = self.at;
         let b = s[at];
         let span = self.span_at(s);
-        let c = self.past(b, span);
+        let c = Cursor {
+            at: at + 1,
+            line: search::count_after(b'\n', b, self.line),
+            span_end: span.end,
+            resume: self.resume,
+            spanless: span.spanless,
+            barren_from: self.barren_from,
+            barren_to: self.barren_to,
+        };
         if b != b'f' {
             return Turn::Past(c);
         }
@@ -202,17 +229,18 @@ impl Cursor {
         if !search::word_at(s, at) {
             return Turn::Past(c);
         }
-        let m = measure(s, at, self.line, self.listless);
+        let m = self.measure(s);
         match m {
-            Measure::Nothing(n) => Turn::Past(Cursor {
+            Measure::Nothing(from, to) => Turn::Past(Cursor {
                 at: c.at,
                 line: c.line,
                 span_end: c.span_end,
                 resume: c.resume,
                 spanless: c.spanless,
-                listless: n,
+                barren_from: from,
+                barren_to: to,
             }),
-            Measure::Function(f, end) => Turn::Found(
+            Measure::Counted(f, end) => Turn::Yield(
                 f,
                 Cursor {
                     at: c.at,
@@ -220,18 +248,23 @@ impl Cursor {
                     span_end: c.span_end,
                     resume: end,
                     spanless: c.spanless,
-                    listless: c.listless,
+                    barren_from: c.barren_from,
+                    barren_to: c.barren_to,
                 },
             ),
         }
     }
 
-    pub fn next(self, s: &[u8]) -> Step {
+    // The next function of the text.
+    pub fn next(self, s: &[u8]) -> Step
+        requires { ⌜ Ready (now s) self ⌝ }
+        ensures { λ r. ⌜ Stepped (now (s .entry)) self r ⌝ }
+    {
         let mut c = self;
         while c.at < s.len() {
-            let t = c.turn(s);
+            let t = c.turn_at(s);
             match t {
-                Turn::Found(f, d) => {
+                Turn::Yield(f, d) => {
                     return Step::Function(f, d);
                 }
                 Turn::Past(d) => {
