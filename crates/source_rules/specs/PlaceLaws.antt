@@ -11,14 +11,17 @@ use native.Mathlib.Numerals.{add-one}
 use native.Mathlib.Omega.{arith}
 use borrow.Author.Tests.{ltb-false, ltb-true}
 use lib.Dec.{eqb, ltb}
-use lib.ListN.{length, take, drop, getD}
+use lib.ListN.{length, take, drop, getD, length-drop}
 use lib.Seq.{drop-cons, drop-drop}
 use Rattle.text_rules.specs.Bytes.{if_then_else_}
 use Rattle.text_rules.specs.BytesLaws.{whether}
 use Rattle.text_rules.specs.Classes.{braceClose, braceOpen, roundClose, roundOpen, semicolon, squareClose, squareOpen}
 use Rattle.text_rules.specs.Search.{_andThen_, countAfter, find, part}
+use Rattle.text_rules.specs.SearchLaws.{find-inside}
 use Rattle.source_rules.specs.Brackets.{depthAfter, partner}
+use Rattle.source_rules.specs.BracketsLaws.{partner-inside}
 use Rattle.source_rules.specs.Finding.{Places, angleAfter, blockEnd, bodyAt, flat, functionFrom}
+use Rattle.source_rules.specs.FindingLaws.{body-inside}
 use Rattle.source_rules.specs.WalkSteps.{find-end, find-step}
 
 -- a place, counted from n places earlier
@@ -170,6 +173,17 @@ find-later s x from to o e h k =
     let q : from + (to - from) ≡ to = omega arith in
     subst (λ i. find x i (drop i s) ≡ o) q (later s x (to - from) from o e (λ m g. omega (arith, k m g)))
 
+-- a place that is told stands in the text
+module _ (s : List ℕ) (at m : ℕ) where
+  pub find-place : (x : ℕ) → find x at (drop at s) ≡ some m → (at ≤ m) × (m < length s)
+  find-place x e = omega (arith, find-inside x at (drop at s) m e, length-drop at s)
+
+  pub partner-place : (o c : ℕ) → partner o c 0 at (drop at s) ≡ some m → (at ≤ m) × (m < length s)
+  partner-place o c e = omega (arith, partner-inside o c 0 at (drop at s) m e, length-drop at s)
+
+  pub body-place : bodyAt 0 0 0 at (drop at s) ≡ some m → (at ≤ m) × (m < length s)
+  body-place e = omega (arith, body-inside 0 0 0 at (drop at s) m e, length-drop at s)
+
 -- the ways that code goes behind a name that ends at `to`. What is missing there is missing behind every name that ends up to the same (
 module _ (s : List ℕ) (to : ℕ) where
   pub no-list : find roundOpen to (drop to s) ≡ none → (from x : ℕ) → to ≤ x → functionFrom from x s ≡ none
@@ -177,27 +191,26 @@ module _ (s : List ℕ) (to : ℕ) where
   no-list e from x h = rw (find-later s roundOpen to x none e h (λ m q. let z : _≡_ {A = ℕ} 0 1 = cc in absurd (omega arith)))
 
   module _ (opened : ℕ) (e₁ : find roundOpen to (drop to s) ≡ some opened) where
-    same-list : (x : ℕ) → to ≤ x → x ≤ opened → find roundOpen x (drop x s) ≡ some opened
+    same-list : (x : ℕ) → to ≤ x → x < opened + 1 → find roundOpen x (drop x s) ≡ some opened
     same-list x h k = find-later s roundOpen to x (some opened) e₁ h (λ m q. let r : opened ≡ m = cc in omega arith)
 
-    pub open-list : partner roundOpen roundClose 0 (suc opened) (drop (suc opened) s) ≡ none → (from x : ℕ) → to ≤ x → x ≤ opened → functionFrom from x s ≡ none
+    pub open-list : partner roundOpen roundClose 0 (opened + 1) (drop (opened + 1) s) ≡ none → (from x : ℕ) → to ≤ x → x < opened + 1 → functionFrom from x s ≡ none
     unfolding functionFrom
-    open-list e from x h k = rw (same-list x h k, e)
+    open-list e from x h k = rw (same-list x h k, rw (add-one opened) at e)
 
-    module _ (closed : ℕ) (e₂ : partner roundOpen roundClose 0 (suc opened) (drop (suc opened) s) ≡ some closed) where
-      pub no-body : bodyAt 0 0 0 (suc closed) (drop (suc closed) s) ≡ none → (from x : ℕ) → to ≤ x → x ≤ opened → functionFrom from x s ≡ none
+    module _ (closed : ℕ) (e₂ : partner roundOpen roundClose 0 (opened + 1) (drop (opened + 1) s) ≡ some closed) where
+      pub no-body : bodyAt 0 0 0 (closed + 1) (drop (closed + 1) s) ≡ none → (from x : ℕ) → to ≤ x → x < opened + 1 → functionFrom from x s ≡ none
       unfolding functionFrom
-      no-body e from x h k = rw (same-list x h k, e₂, e)
+      no-body e from x h k = rw (same-list x h k, rw (add-one opened) at e₂, rw (add-one closed) at e)
 
-      module _ (body : ℕ) (e₃ : bodyAt 0 0 0 (suc closed) (drop (suc closed) s) ≡ some body) where
-        pub open-body : partner braceOpen braceClose 0 (suc body) (drop (suc body) s) ≡ none → (from x : ℕ) → to ≤ x → x ≤ opened → functionFrom from x s ≡ none
+      module _ (body : ℕ) (e₃ : bodyAt 0 0 0 (closed + 1) (drop (closed + 1) s) ≡ some body) where
+        pub open-body : partner braceOpen braceClose 0 (body + 1) (drop (body + 1) s) ≡ none → (from x : ℕ) → to ≤ x → x < opened + 1 → functionFrom from x s ≡ none
         unfolding functionFrom
-        open-body e from x h k = rw (same-list x h k, e₂, e₃, e)
+        open-body e from x h k = rw (same-list x h k, rw (add-one opened) at e₂, rw (add-one closed) at e₃, rw (add-one body) at e)
 
-        pub whole : (end : ℕ) → partner braceOpen braceClose 0 (suc body) (drop (suc body) s) ≡ some end
-            → (from : ℕ) → functionFrom from to s ≡ some (placesAt from to opened closed body end)
+        pub whole : (end : ℕ) → partner braceOpen braceClose 0 (body + 1) (drop (body + 1) s) ≡ some end → (from : ℕ) → functionFrom from to s ≡ some (placesAt from to opened closed body end)
         unfolding functionFrom
-        whole end e from = rw (e₁, e₂, e₃, e)
+        whole end e from = rw (e₁, rw (add-one opened) at e₂, rw (add-one closed) at e₃, rw (add-one body) at e)
 
 -- the partner of a { at a place, and of the next { from a place on
 abbrev pub closing : List ℕ → ℕ → Option ℕ
@@ -223,8 +236,8 @@ module _ (s : List ℕ) (at : ℕ) where
   no-brace e x h = rw (find-later s braceOpen at x none e h (λ m q. let z : _≡_ {A = ℕ} 0 1 = cc in absurd (omega arith)))
 
   module _ (opened : ℕ) (e₁ : find braceOpen at (drop at s) ≡ some opened) where
-    pub open-block : partner braceOpen braceClose 0 (suc opened) (drop (suc opened) s) ≡ none → (x : ℕ) → at ≤ x → x ≤ opened → blockFrom s x ≡ none
-    open-block e x h k = rw (find-later s braceOpen at x (some opened) e₁ h (λ m q. let r : opened ≡ m = cc in omega arith), e)
+    pub open-block : partner braceOpen braceClose 0 (opened + 1) (drop (opened + 1) s) ≡ none → (x : ℕ) → at ≤ x → x < opened + 1 → blockFrom s x ≡ none
+    open-block e x h k = rw (find-later s braceOpen at x (some opened) e₁ h (λ m q. let r : opened ≡ m = cc in omega arith), rw (add-one opened) at e)
 
-    pub block : (closed : ℕ) → partner braceOpen braceClose 0 (suc opened) (drop (suc opened) s) ≡ some closed → blockFrom s at ≡ some closed
-    block closed e = rw (e₁, e)
+    pub block : (closed : ℕ) → partner braceOpen braceClose 0 (opened + 1) (drop (opened + 1) s) ≡ some closed → blockFrom s at ≡ some closed
+    block closed e = rw (e₁, rw (add-one opened) at e)
