@@ -1,6 +1,6 @@
 -- The step of the search at a byte, in places of the whole text.
 use Prim.Native.Nat.{ℕ, zero, suc, pred, _+_, _-_, _≤_, _<_}
-use mathlib.Core.Path.{_≡_, ap, sym, _∙_}
+use mathlib.Core.Path.{_≡_, refl, ap, sym, _∙_}
 use mathlib.Core.List.{List, [], _∷_}
 use mathlib.Core.Option.{none, some}
 use native.Mathlib.Numerals.{sub-one, add-one}
@@ -40,3 +40,15 @@ module _ (s : List ℕ) (at line spanEnd resume end : ℕ) (h : at < length s) (
       ∙ ap (λ r. measured at line (drop at s) p ∷ r) (
         ap (λ k. functionsFrom spanLength (at + 1) (countAfter lf b line) (pred k) (pred (p .bodyTo)) b (drop (at + 1) s)) (sym e)
         ∙ rw (o, q, add-one at))
+
+-- the span at a byte: one that is open, none, or one that begins there
+pub span-open : (left n : ℕ) → 0 < left → left ≡ left orElse n
+span-open zero n h = absurd (omega arith)
+span-open (suc left) n h = refl
+
+pub span-none : (left n : ℕ) → n ≡ 0 → left ≡ left orElse n
+span-none zero n e = sym e
+span-none (suc left) n e = refl
+
+pub span-new : (left m n : ℕ) → left ≡ 0 → m ≡ n → m ≡ left orElse n
+span-new left m n z e = rw z e
