@@ -10,12 +10,13 @@ use native.Mathlib.Numerals.{add-one, sub-one}
 use native.Mathlib.Omega.{arith}
 use borrow.Author.Tests.{eqb-true, lt-ltb, ne-eqb}
 use lib.Dec.{eqb}
-use lib.ListN.{length, drop, getD}
+use lib.ListN.{length, drop, getD, length-drop}
 use lib.Seq.{drop-cons, drop-drop}
 use Rattle.text_rules.specs.Bytes.{_orElse_, ascii, if_then_else_}
 use Rattle.text_rules.specs.BytesLaws.{and-left, whether}
 use Rattle.text_rules.specs.Classes.{classOf, hash, isSpace, isWord, lf}
 use Rattle.text_rules.specs.Search.{countAfter, run, startsWith}
+use Rattle.text_rules.specs.StartsLaws.{starts-length}
 use Rattle.source_rules.specs.Finding.{Places, blockEnd, functionAt, functionFrom, isFn, nameEnd, nameStart, orZero, spanLength}
 use Rattle.source_rules.specs.PlaceLaws.{block-moved, blockFrom, function-moved, moved-none, moved-some, movedPlaces, places-none, places-some}
 use Rattle.source_rules.specs.TextScan.{foundThen, functionsFrom, sought, stepPast}
@@ -74,6 +75,12 @@ module _ (s : List ℕ) (at : ℕ) (h : at < length s) where
 
   pub fn-byte : (prev : ℕ) → isFn prev (drop at s) ≡ true → b ≡ 102
   fn-byte prev e = let q : isFn prev (getD s at 0 ∷ drop (suc at) s) ≡ true = rw (drop-cons s at 0 h) at e in head-f prev (getD s at 0) (drop (suc at) s) q
+
+  pub fn-inside : (prev : ℕ) → isFn prev (drop at s) ≡ true → at + 2 ≤ length s
+  unfolding isFn
+  fn-inside prev e =
+      let f : startsWith (ascii "fn") (drop at s) ≡ true = and-left _ (not (isWord prev)) (and-left _ (not (isWord (getD (drop at s) 2 0))) e) in
+      omega (arith, starts-length (ascii "fn") (drop at s) f, length-drop at s)
 
   pub other-byte : (prev : ℕ) → b ≢ 102 → isFn prev (drop at s) ≡ false
   other-byte prev n = elim (whether (isFn prev (drop at s))) [ inl e ↦ absurd (n (fn-byte prev e)) | inr e ↦ e ]
