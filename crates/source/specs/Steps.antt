@@ -9,7 +9,7 @@ use native.Mathlib.Omega.{arith}
 use borrow.Author.Tests.{le-ltb}
 use lib.ListN.{length, take, drop, getD}
 use Rattle.text_rules.specs.Bytes.{_orElse_}
-use Rattle.text_rules.specs.Classes.{isSpace, isWord, lf}
+use Rattle.text_rules.specs.Classes.{hash, isSpace, isWord, lf}
 use Rattle.text_rules.specs.Search.{countAfter, part, run}
 use Rattle.source_rules.specs.Finding.{Places, functionAt, functionFrom, nameEnd, nameStart, spanLength}
 use Rattle.source_rules.specs.FindingLaws.{function-nameless}
@@ -19,8 +19,8 @@ use Rattle.source_rules.specs.Parameters.{paramsOf}
 use Rattle.source_rules.specs.PlaceLaws.{movedPlaces, part-rest, placesAt}
 use Rattle.source_rules.specs.TextScan.{TextFun, functionsFrom, measured, sought}
 use Rattle.source_rules.specs.TextScanLaws.{Fine, Here, fine}
-use Rattle.source_rules.specs.TextScanSteps.{byteBefore, function-at, functions-past, name-from, name-to, no-function}
-use Rattle.source_rules.specs.WalkSteps.{functions-end, functions-some}
+use Rattle.source_rules.specs.TextScanSteps.{byteBefore, function-at, functions-past, name-from, name-to, no-function, no-hash, other-byte}
+use Rattle.source_rules.specs.WalkSteps.{functions-end, functions-some, sought-no-word}
 use Rattle.search.specs.Place.{Vain}
 use Rattle.search.specs.declared.Bare.{Bare}
 use Rattle.source.specs.Cursors.{Barren, Closed, FoundAt, MeasuredAt, Passes, Ready, SpanAt, Spanless, Yields, remaining, remainingAt, textFun}
@@ -116,6 +116,17 @@ module _ (s : List ℕ) (c : Cursor) (h : c .at < length s) (ready : Ready s c) 
         params-most = g .params-most;
         fine = g;
       }
+
+-- past a byte that begins neither a mark nor a word fn: only the place and the line change
+pub quiet : (s : List ℕ) (c : Cursor) → c .at < length s → Ready s c → (getD s (c .at) 0 ≢ hash) × (getD s (c .at) 0 ≢ 102) → (line : ℕ) → line ≡ countAfter lf (getD s (c .at) 0) (c .line)
+    → Passes s c
+    (record { at = c .at + 1; line = line; «span_end» = c .«span_end»; resume = c .resume; spanless = c .spanless; «barren_from» = c .«barren_from»; «barren_to» = c .«barren_to»; bare = c .bare })
+quiet s c h ready (m, n) line e =
+    let span : Span = record { end = c .«span_end»; spanless = c .spanless } in
+    let here : SpanAt s c span = record { left = span-none (c .«span_end» - c .at) _ (no-hash s (c .at) h m); no-span = ready .no-span } in
+    passes s c h ready span here line e
+    (sought-no-word (c .«span_end» - c .at) (c .resume - c .at) (byteBefore s (c .at)) (drop (c .at) s) (other-byte s (c .at) h (byteBefore s (c .at)) n))
+    (c .«barren_from») (c .«barren_to») (c .bare) (ready .no-function) (ready .vain)
 
 -- a turn that finds a function finds it for every cursor that has the same functions
 pub yields-later : (s : List ℕ) (b c : Cursor) (f : Found) (d : Cursor) → remaining s c ≡ remaining s b → b .at ≤ c .at → Yields s c f d → Yields s b f d

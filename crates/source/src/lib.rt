@@ -4,9 +4,12 @@
 use search::Bare;
 use search::Place;
 ghost use mathlib.Core.Path.{_≡_};
+ghost use mathlib.Core.Logic.{_≢_};
+ghost use mathlib.Core.Bool.{true};
 ghost use mathlib.Core.List.{List};
 ghost use Prim.Native.Nat.{ℕ, _+_, _≤_, _<_};
 ghost use lib.ListN.{length};
+ghost use Rattle.text_rules.specs.Classes.{hash};
 ghost use Rattle.search.specs.Place.{Vain};
 ghost use Rattle.source_rules.specs.TextScan.{functions};
 ghost use Rattle.source.specs.Cursors.{Barren, Closed, FoundAt, Measures, Ready, Signed, SpanAt, Stepped, Turned, remaining};
@@ -129,6 +132,19 @@ fn found_at(s: &[u8], line: usize, from: usize, to: usize, b: Brackets) -> Found
         nesting: w.nesting,
         params,
     }
+}
+
+// Whether a byte begins neither the mark of test code nor a word `fn`.
+fn is_quiet(b: u8) -> bool
+    ensures { λ r. ⌜ (r ≡ true → (b ≢ hash) × (b ≢ 102)) ⌝ }
+{
+    if b == b'#' {
+        return false;
+    }
+    if b == b'f' {
+        return false;
+    }
+    true
 }
 
 pub fn start() -> Cursor
@@ -286,13 +302,20 @@ impl Cursor {
     {
         let mut c = self;
         while c.at < s.len() {
-            let t = c.turn_at(s);
-            match t {
-                Turn::Yield(f, d) => {
-                    return Step::Function(f, d);
-                }
-                Turn::Past(d) => {
-                    c = d;
+            let at = c.at;
+            let b = s[at];
+            if is_quiet(b) {
+                c.line = search::count_after(b'\n', b, c.line);
+                c.at = at + 1;
+            } else {
+                let t = c.turn_at(s);
+                match t {
+                    Turn::Yield(f, d) => {
+                        return Step::Function(f, d);
+                    }
+                    Turn::Past(d) => {
+                        c = d;
+                    }
                 }
             }
         }

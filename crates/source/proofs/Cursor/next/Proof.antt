@@ -5,7 +5,7 @@ use native.Mathlib.Omega.{arith}
 use borrow.Author.Needs.{needs}
 use lib.ListN.{length}
 use Rattle.source.specs.Cursors.{Passes, Ready, Turned, Yields, remaining}
-use Rattle.source.specs.Steps.{remaining-end, yields-later}
+use Rattle.source.specs.Steps.{quiet, remaining-end, yields-later}
 use Rattle.source.proofs.Cursor.next.Statement.{statement}
 use Rattle.source.proofs.Cursor.next.Tie as tie
 
@@ -18,26 +18,34 @@ abbrev μ-loop : tie.MeasureT-loop
 loop-holds : tie.Need-loop-holds Inv-loop μ-loop
 loop-holds c = (c .before .pre, refl, omega arith)
 
+loop-again : tie.Need-loop-again Inv-loop μ-loop
+loop-again c =
+    let q = c .before .before in
+    let l = q .before .before .before .before in
+    let b = l .before .before in
+    let p = quiet (b .args .s .now) (l .loop .c) (q .before .before .if1 .taken) (l .loop .inv .0) (q .is-quiet .ensures (c .before .if2 .taken)) (c .count-after .result) (c .count-after .ensures .0) in
+    (p .ready, sym (p .same) ∙ l .loop .inv .1, omega arith)
+
 returns : tie.Need-returns Inv-loop μ-loop
 returns c =
     let t = c .before .before .before in
-    let l = t .before .before .before in
+    let l = t .before .before .before .before .before .before in
     let b = l .before .before in
     let y : Yields (b .args .s .now) (l .loop .c) (c .before .t .given .0 .0) (c .before .t .given .0 .1 .0) = subst (Turned (b .args .s .now) (l .loop .c)) (c .before .t .given .1) (t .turn-at .ensures) in
     yields-later (b .args .s .now) (b .args .self) (l .loop .c) (c .before .t .given .0 .0) (c .before .t .given .0 .1 .0) (l .loop .inv .1) (l .loop .inv .2) y
 
-loop-less : tie.Need-loop-less Inv-loop μ-loop
-loop-less c =
+loop-less-2 : tie.Need-loop-less-2 Inv-loop μ-loop
+loop-less-2 c =
     let t = c .before .before .before in
-    let l = t .before .before .before in
+    let l = t .before .before .before .before .before .before in
     let b = l .before .before in
     let p : Passes (b .args .s .now) (l .loop .c) (c .before .t2 .given .0 .0) = subst (Turned (b .args .s .now) (l .loop .c)) (c .before .t2 .given .1) (t .turn-at .ensures) in
     omega (arith, p .further)
 
-loop-again : tie.Need-loop-again Inv-loop μ-loop
-loop-again c =
+loop-again-2 : tie.Need-loop-again-2 Inv-loop μ-loop
+loop-again-2 c =
     let t = c .before .before .before in
-    let l = t .before .before .before in
+    let l = t .before .before .before .before .before .before in
     let b = l .before .before in
     let p : Passes (b .args .s .now) (l .loop .c) (c .before .t2 .given .0 .0) = subst (Turned (b .args .s .now) (l .loop .c)) (c .before .t2 .given .1) (t .turn-at .ensures) in
     (p .ready, sym (p .same) ∙ l .loop .inv .1, omega (arith, p .further))
@@ -55,10 +63,16 @@ next-spec =
     Inv-loop
     μ-loop
     loop-holds
+    (λ c. search needs)
+    (λ c κs. search needs)
+    (λ c κs. search needs)
+    (λ c. search needs)
+    (λ c. omega arith)
+    loop-again
     (λ c κs. search needs)
     (λ c. search needs)
     returns
     (λ c. search needs)
-    loop-less
-    loop-again
+    loop-less-2
+    loop-again-2
     returns-2)
