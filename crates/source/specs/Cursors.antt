@@ -3,7 +3,7 @@ use Prim.Native.Nat.{ℕ, _+_, _-_, _≤_, _<_}
 use mathlib.Core.Path.{_≡_}
 use mathlib.Core.List.{List, [], _∷_}
 use mathlib.Core.Option.{none, some}
-use lib.ListN.{length, take, drop, getD}
+use lib.ListN.{length, take, drop}
 use Rattle.text_rules.specs.Bytes.{_orElse_}
 use Rattle.text_rules.specs.Search.{part}
 use Rattle.source_rules.specs.Finding.{Places, functionAt, functionFrom, spanLength}

@@ -202,38 +202,32 @@ impl Cursor {
         ensures { λ r. ⌜ SpanAt (now (s .entry)) self r ⌝ }
     {
         let at = self.at;
-        let same = Span {
+        let mut span = Span {
             end: self.span_end,
             spanless: self.spanless,
         };
         if at < self.span_end {
-            return same;
+            return span;
         }
         if s[at] != b'#' {
-            return same;
+            return span;
         }
         if at < self.spanless {
-            return same;
+            return span;
         }
         if !search::test_mark(s, at) {
-            return same;
+            return span;
         }
         let Place::At(opened) = search::find(s, b'{', at) else {
-            return Span {
-                end: self.span_end,
-                spanless: s.len(),
-            };
+            span.spanless = s.len();
+            return span;
         };
         let Place::At(closed) = search::matching_delim(s, b'{', b'}', opened + 1) else {
-            return Span {
-                end: self.span_end,
-                spanless: opened + 1,
-            };
+            span.spanless = opened + 1;
+            return span;
         };
-        Span {
-            end: closed,
-            spanless: self.spanless,
-        }
+        span.end = closed;
+        span
     }
 
     // Past the next byte.
@@ -244,17 +238,11 @@ impl Cursor {
         let at = self.at;
         let b = s[at];
         let span = self.span_at(s);
-        let bare = self.bare;
-        let c = Cursor {
-            at: at + 1,
-            line: search::count_after(b'\n', b, self.line),
-            span_end: span.end,
-            resume: self.resume,
-            spanless: span.spanless,
-            barren_from: self.barren_from,
-            barren_to: self.barren_to,
-            bare,
-        };
+        let mut c = self;
+        c.at = at + 1;
+        c.line = search::count_after(b'\n', b, self.line);
+        c.span_end = span.end;
+        c.spanless = span.spanless;
         if b != b'f' {
             return Turn::Past(c);
         }
@@ -269,29 +257,17 @@ impl Cursor {
         }
         let m = self.measure(s);
         match m {
-            Measure::Nothing(from, to, v) => Turn::Past(Cursor {
-                at: c.at,
-                line: c.line,
-                span_end: c.span_end,
-                resume: c.resume,
-                spanless: c.spanless,
-                barren_from: from,
-                barren_to: to,
-                bare: v,
-            }),
-            Measure::Counted(f, end, v) => Turn::Yield(
-                f,
-                Cursor {
-                    at: c.at,
-                    line: c.line,
-                    span_end: c.span_end,
-                    resume: end,
-                    spanless: c.spanless,
-                    barren_from: c.barren_from,
-                    barren_to: c.barren_to,
-                    bare: v,
-                },
-            ),
+            Measure::Nothing(from, to, v) => {
+                c.barren_from = from;
+                c.barren_to = to;
+                c.bare = v;
+                Turn::Past(c)
+            }
+            Measure::Counted(f, end, v) => {
+                c.resume = end;
+                c.bare = v;
+                Turn::Yield(f, c)
+            }
         }
     }
 

@@ -1,6 +1,6 @@
 -- A search for a body that finds none: it finds none from any place on that it passes, with the depths that it has there; and where these
 -- are 0, a search that begins there finds none either.
-use Prim.Native.Nat.{ℕ, zero, suc, _+_, _≤_, _<_}
+use Prim.Native.Nat.{ℕ, suc, _+_, _<_}
 use mathlib.Core.Path.{_≡_, refl, ap, sym, _∙_}
 use mathlib.Core.Logic.{_⊎_, _≢_, inl, inr}
 use mathlib.Core.Bool.{true, false, _&&_, and-false}
@@ -11,7 +11,6 @@ use native.Mathlib.Omega.{arith}
 use borrow.Author.Tests.{eq-eqb, eqb-false, eqb-true, ne-eqb}
 use lib.Dec.{eqb}
 use lib.ListN.{length, drop, getD}
-use Rattle.text_rules.specs.Bytes.{if_then_else_}
 use Rattle.text_rules.specs.BytesLaws.{and-left, and-right, whether}
 use Rattle.text_rules.specs.Classes.{braceOpen, semicolon, squareClose, squareOpen}
 use Rattle.text_rules.specs.Search.{countAfter}

@@ -5,7 +5,7 @@ use mathlib.Core.Path.{_≡_, refl, ap, sym, _∙_}
 use mathlib.Core.Logic.{_≢_, inl, inr}
 use mathlib.Core.Bool.{Bool, true, false, not, _&&_, and-false}
 use mathlib.Core.List.{List, [], _∷_}
-use mathlib.Core.Option.{Option, none, some}
+use mathlib.Core.Option.{none, some}
 use native.Mathlib.Numerals.{add-one, sub-one}
 use native.Mathlib.Omega.{arith}
 use borrow.Author.Tests.{eqb-true, lt-ltb, ne-eqb}
@@ -17,9 +17,9 @@ use Rattle.text_rules.specs.BytesLaws.{and-left, whether}
 use Rattle.text_rules.specs.Classes.{classOf, hash, isSpace, isWord, lf}
 use Rattle.text_rules.specs.Search.{countAfter, run, startsWith}
 use Rattle.text_rules.specs.StartsLaws.{starts-length}
-use Rattle.source_rules.specs.Finding.{Places, blockEnd, functionAt, functionFrom, isFn, nameEnd, nameStart, orZero, spanLength}
+use Rattle.source_rules.specs.Finding.{Places, blockEnd, functionAt, functionFrom, isFn, nameEnd, nameStart, spanLength}
 use Rattle.source_rules.specs.PlaceLaws.{block-moved, blockFrom, function-moved, moved-none, moved-some, movedPlaces, places-none, places-some}
-use Rattle.source_rules.specs.TextScan.{foundThen, functionsFrom, sought, stepPast}
+use Rattle.source_rules.specs.TextScan.{functionsFrom, sought}
 use Rattle.source_rules.specs.WalkSteps.{functions-none}
 
 -- where the name begins and ends that follows an `fn` at a place

@@ -1,7 +1,7 @@
 -- `search::body_open` meets its contract: at each turn the brace sought from `at` on, at the depths reached, is the one sought from the start
 -- on at depth 0. The three counts are at most the place, so that they can be counted.
 use Prim.Native.Nat.{ℕ, _≤_, _<_, _-_, _+_}
-use mathlib.Core.Path.{_≡_, refl, ap, sym, _∙_}
+use mathlib.Core.Path.{_≡_, refl, sym, _∙_}
 use mathlib.Core.Logic.{_⊎_, _≢_, inl, inr, ⊎-elim}
 use mathlib.Core.Bool.{false, and-false}
 use mathlib.Core.List.{List}

@@ -1,6 +1,6 @@
 -- `search::space_end` meets its contract: at each turn the place and the run from there on make the end.
 use Prim.Native.Nat.{_≤_, _-_, _+_}
-use mathlib.Core.Path.{_≡_, refl, sym, _∙_}
+use mathlib.Core.Path.{_≡_, sym, _∙_}
 use native.Mathlib.Omega.{arith}
 use borrow.Author.Tests.{not-false, not-true}
 use borrow.Author.Needs.{needs}

@@ -8,7 +8,7 @@ use mathlib.Core.Option.{none}
 use native.Mathlib.Omega.{arith}
 use borrow.Author.Needs.{needs}
 use borrow.Author.Tests.{not-false}
-use lib.ListN.{length, drop, getD}
+use lib.ListN.{drop, getD}
 use Rattle.text_rules.specs.BytesLaws.{true-false}
 use Rattle.text_rules.specs.Classes.{semicolon}
 use Rattle.source_rules.specs.BodyLaws.{body-kept}

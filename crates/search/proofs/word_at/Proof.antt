@@ -1,13 +1,13 @@
 -- `search::word_at` meets its contract: the definition's three tests, in its order. Where the two bytes `fn` stand, the text goes on for two
 -- bytes, so the place behind them can be told.
-use Prim.Native.Nat.{ℕ, _≤_}
+use Prim.Native.Nat.{ℕ}
 use mathlib.Core.Path.{_≡_, sym, _∙_, ap}
 use mathlib.Core.Bool.{true, false, not}
 use mathlib.Core.List.{List, _∷_}
 use native.Mathlib.Omega.{arith}
 use borrow.Author.Needs.{needs}
 use borrow.Author.Tests.{not-false, not-true}
-use lib.ListN.{length, drop, getD, length-drop}
+use lib.ListN.{drop, getD, length-drop}
 use lib.Seq.{getD-drop}
 use Rattle.text_rules.specs.Bytes.{ascii}
 use Rattle.text_rules.specs.Classes.{isWord}

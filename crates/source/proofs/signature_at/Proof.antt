@@ -1,11 +1,11 @@
 -- `source::signature_at` meets its contract: each search tells whether its bracket is there, and the rules have one law for each that may be
 -- missing and one for all four.
-use Prim.Native.Nat.{ℕ, _+_, _≤_, _<_}
+use Prim.Native.Nat.{_+_}
 use mathlib.Core.Path.{_≡_, ap, sym, _∙_}
 use mathlib.Core.Option.{none, some}
 use native.Mathlib.Omega.{arith}
 use borrow.Author.Needs.{needs}
-use lib.ListN.{length, drop}
+use lib.ListN.{drop}
 use Rattle.text_rules.specs.Classes.{braceClose, braceOpen, roundClose, roundOpen}
 use Rattle.text_rules.specs.Search.{find}
 use Rattle.source_rules.specs.Brackets.{partner}

@@ -3,7 +3,7 @@
 use mathlib.Core.Path.{subst}
 use native.Mathlib.Omega.{arith}
 use borrow.Author.Needs.{needs}
-use Rattle.source.specs.Cursors.{Barren, Closed, Missing, Signed}
+use Rattle.source.specs.Cursors.{Barren, Closed, Signed}
 use Rattle.source.specs.Steps.{broken, function-there, nameless}
 use Rattle.source.proofs.Cursor.measure.Statement.{statement}
 use Rattle.source.proofs.Cursor.measure.Tie as tie

@@ -1,13 +1,13 @@
 -- `source::Cursor::span_at` meets its contract: a span that is open stays; elsewhere one begins only where the mark stands and the next brace
 -- has a partner. Where it has none, none has a partner up to that brace.
-use Prim.Native.Nat.{ℕ, _+_, _-_, _≤_, _<_}
+use Prim.Native.Nat.{_+_, _-_}
 use mathlib.Core.Path.{_≡_, ap, sym, _∙_}
-use mathlib.Core.Bool.{true, false}
+use mathlib.Core.Bool.{true}
 use mathlib.Core.Option.{none, some}
 use native.Mathlib.Omega.{arith}
 use borrow.Author.Needs.{needs}
 use borrow.Author.Tests.{not-false, not-true}
-use lib.ListN.{length, drop}
+use lib.ListN.{drop}
 use Rattle.text_rules.specs.Bytes.{ascii}
 use Rattle.text_rules.specs.Classes.{braceClose, braceOpen}
 use Rattle.text_rules.specs.Search.{find, startsWith}
@@ -59,8 +59,8 @@ add-matching-delim c =
     let b = f .before .before .before .before .before .before .before .before .before .before in
     omega (arith, find-place (b .args .s .now) (b .args .self .at) _ braceOpen (sym (f .find .ensures) ∙ ap placeOf (c .before .opened .given .1)))
 
-add-t15 : tie.Need-add-t15
-add-t15 c =
+add-span : tie.Need-add-span
+add-span c =
     let k = c .before .before .before in
     let f = k .before .before .before in
     let b = f .before .before .before .before .before .before .before .before .before .before in
@@ -116,6 +116,6 @@ span-at-spec =
     (λ c κs. search needs)
     (λ c. search needs)
     (λ c. search needs)
-    add-t15
+    add-span
     returns-6
     returns-7)

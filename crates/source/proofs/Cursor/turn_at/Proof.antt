@@ -1,12 +1,12 @@
 -- `source::Cursor::turn_at` meets its contract: a function is sought only at a word `fn` outside test spans and behind the last body. At every
 -- other byte the rules find none, so the search goes on at the next byte.
-use Prim.Native.Nat.{_+_, _-_, _≤_}
+use Prim.Native.Nat.{_-_}
 use mathlib.Core.Path.{_≡_, subst, sym, _∙_}
 use mathlib.Core.Bool.{true}
 use native.Mathlib.Omega.{arith}
 use borrow.Author.Needs.{needs}
 use borrow.Author.Tests.{not-false, not-true}
-use lib.ListN.{length, drop}
+use lib.ListN.{drop}
 use Rattle.source_rules.specs.Finding.{isFn}
 use Rattle.source_rules.specs.TextScanSteps.{byteBefore, fn-inside, other-byte}
 use Rattle.source_rules.specs.WalkSteps.{sought-in-span, sought-no-word, sought-skipped, sought-word}
@@ -18,7 +18,7 @@ use Rattle.source.proofs.Cursor.turn_at.Tie as tie
 returns : tie.Need-returns
 returns c =
     let k = c .before in
-    let p = k .before .before in
+    let p = k .before in
     let b = p .before .before .before in
     let s = b .args .s .now in
     let at = b .args .self .at in
@@ -29,7 +29,7 @@ returns c =
 returns-2 : tie.Need-returns-2
 returns-2 c =
     let k = c .before .before .before in
-    let p = k .before .before in
+    let p = k .before in
     let b = p .before .before .before in
     let s = b .args .s .now in
     let at = b .args .self .at in
@@ -40,7 +40,7 @@ returns-2 c =
 returns-3 : tie.Need-returns-3
 returns-3 c =
     let k = c .before .before .before .before .before in
-    let p = k .before .before in
+    let p = k .before in
     let b = p .before .before .before in
     let s = b .args .s .now in
     let at = b .args .self .at in
@@ -52,7 +52,7 @@ returns-4 : tie.Need-returns-4
 returns-4 c =
     let w = c .before in
     let k = w .before .before .before .before .before .before in
-    let p = k .before .before in
+    let p = k .before in
     let b = p .before .before .before in
     let s = b .args .s .now in
     let at = b .args .self .at in
@@ -63,7 +63,7 @@ returns-4 c =
 measure-requires : tie.Need-measure-requires
 measure-requires c κs =
     let w = c .before in
-    let b = w .before .before .before .before .before .before .before .before .before .before .before in
+    let b = w .before .before .before .before .before .before .before .before .before .before in
     (fn-inside (b .args .s .now) (b .args .self .at) (b .pre .0) _ (sym (w .word-at .ensures) ∙ not-false _ (c .if4 .left)), b .pre .1 .no-function, b .pre .1 .vain)
 
 returns-5 : tie.Need-returns-5
@@ -71,7 +71,7 @@ returns-5 c =
     let m = c .before .before .before in
     let w = m .before .before in
     let k = w .before .before .before .before .before .before in
-    let p = k .before .before in
+    let p = k .before in
     let b = p .before .before .before in
     let s = b .args .s .now in
     let at = b .args .self .at in
@@ -86,7 +86,7 @@ returns-6 c =
     let m = c .before .before .before in
     let w = m .before .before in
     let k = w .before .before .before .before .before .before in
-    let p = k .before .before in
+    let p = k .before in
     let b = p .before .before .before in
     let s = b .args .s .now in
     let at = b .args .self .at in
