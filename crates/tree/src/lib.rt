@@ -161,7 +161,7 @@ fn next_path(last: &[u8], path: &[u8]) -> bool
 // The number of files.
 pub fn file_count(tree: &[u8]) -> usize
     requires { ⌜ 4 ≤ length (now tree) ⌝ }
-    ensures { λ r. ⌜ r ≡ fileCount (now (tree .entry)) ⌝ }
+    ensures { λ r. ⌜ (r ≡ fileCount (now (tree .entry))) × (r < 4294967296) ⌝ }
 {
     number(tree, 0)
 }
@@ -214,11 +214,11 @@ pub fn paths_rise(tree: &[u8]) -> bool
     ensures { λ r. ⌜ r ≡ pathsRise [] (sources (now (tree .entry))) ⌝ }
 {
     let n = file_count(tree);
-    let mut k = 0;
+    let mut next = 0;
     let mut a = 0;
     let mut e = 0;
-    while k < n {
-        let path = path_span(tree, k);
+    while next < n {
+        let path = path_span(tree, next);
         let from = path.from;
         let to = path.to;
         if !next_path(&tree[a..e], &tree[from..to]) {
@@ -226,7 +226,7 @@ pub fn paths_rise(tree: &[u8]) -> bool
         }
         a = from;
         e = to;
-        k += 1;
+        next += 1;
     }
     true
 }
@@ -237,15 +237,15 @@ pub fn texts_good(tree: &[u8]) -> bool
     ensures { λ r. ⌜ r ≡ textsGood (sources (now (tree .entry))) ⌝ }
 {
     let n = file_count(tree);
-    let mut k = 0;
-    while k < n {
-        let text = text_span(tree, k);
+    let mut file = 0;
+    while file < n {
+        let text = text_span(tree, file);
         let from = text.from;
         let to = text.to;
         if !utf8::is_utf8(&tree[from..to]) {
             return false;
         }
-        k += 1;
+        file += 1;
     }
     true
 }

@@ -6,7 +6,7 @@ use Rattle.tree.proofs.file_count.Tie as tie
 
 returns : tie.Need-returns
 unfolding fileCount
-returns c = c .number .ensures .0
+returns c = c .number .ensures
 
 pub file-count-spec : {M : Type 1} → statement M
 file-count-spec = tie.close (tie.spec (λ c κs. search needs) returns)

@@ -24,27 +24,27 @@ module _ (tree : List ℕ) (n k : ℕ) (last path : List ℕ) (test : Bool) (h :
   stops : test ≡ false → rest tree n k last ≡ false
   stops f = paths-step tree n k last h ∙ rw (sym here ∙ f)
 
-  next : test ≡ true → rest tree n (k + 1) path ≡ rest tree n k last
-  next t = ap (rest tree n (k + 1)) p ∙ sym (paths-step tree n k last h ∙ rw (sym here ∙ t))
+  goes-on : test ≡ true → rest tree n (k + 1) path ≡ rest tree n k last
+  goes-on t = ap (rest tree n (k + 1)) p ∙ sym (paths-step tree n k last h ∙ rw (sym here ∙ t))
 
 all : (tree : List ℕ) (n : ℕ) → n ≡ fileCount tree → rest tree n 0 [] ≡ pathsRise [] (sources tree)
 unfolding sources
 all tree n e = let m : n - 0 ≡ fileCount tree = omega arith in ap (λ i. pathsRise [] (sourcesFrom tree i 0 4)) m
 
 abbrev Inv-loop : tie.InvT-loop
-Inv-loop tree n k₀ a₀ e₀ k a e = (k ≤ n) × (a ≤ e) × (e ≤ length tree) × (rest tree n k (part a e tree) ≡ pathsRise [] (sources tree))
+Inv-loop tree n next₀ a₀ e₀ next a e = (a ≤ e) × (e ≤ length tree) × (rest tree n next (part a e tree) ≡ pathsRise [] (sources tree))
 
 abbrev μ-loop : tie.MeasureT-loop
-μ-loop tree n k₀ a₀ e₀ k a e = n - k
+μ-loop tree n next₀ a₀ e₀ next a e = n - next
 
 file-count-requires : tie.Need-file-count-requires Inv-loop μ-loop
 file-count-requires c κs = count-inside _ (c .before .pre)
 
 loop-holds : tie.Need-loop-holds Inv-loop μ-loop
-loop-holds c = (omega arith, omega arith, omega arith, all _ _ (c .file-count .ensures))
+loop-holds c = (omega arith, omega arith, all _ _ (c .file-count .ensures .0))
 
 path-span-requires : tie.Need-path-span-requires Inv-loop μ-loop
-path-span-requires c κs = let f = c .before .before in (f .before .before .pre, omega (arith, f .file-count .ensures))
+path-span-requires c κs = let f = c .before .before in (f .before .before .pre, omega (arith, f .file-count .ensures .0))
 
 returns : tie.Need-returns Inv-loop μ-loop
 returns c =
@@ -53,7 +53,7 @@ returns c =
     let l = s .before .before in
     let tree = l .before .before .before .args .tree .now in
     let p = span-is tree _ _ _ _ (s .path-span .ensures .0) (s .path-span .ensures .1) in
-    sym (sym (l .loop .inv .3) ∙ stops tree _ (l .loop .k) _ _ _ (omega arith) p (call .next-path .ensures) (not-true _ (c .if1 .taken)))
+    sym (sym (l .loop .inv .2) ∙ stops tree _ (l .loop .next) _ _ _ (omega arith) p (call .next-path .ensures) (not-true _ (c .if1 .taken)))
 
 loop-again : tie.Need-loop-again Inv-loop μ-loop
 loop-again c =
@@ -64,12 +64,11 @@ loop-again c =
     let p = span-is tree _ _ _ _ (s .path-span .ensures .0) (s .path-span .ensures .1) in (
       omega arith,
       omega arith,
-      omega arith,
-      next tree _ (l .loop .k) _ _ _ (omega arith) p (call .next-path .ensures) (not-false _ (c .if1 .left)) ∙ l .loop .inv .3,
+      goes-on tree _ (l .loop .next) _ _ _ (omega arith) p (call .next-path .ensures) (not-false _ (c .if1 .left)) ∙ l .loop .inv .2,
     )
 
 returns-2 : tie.Need-returns-2 Inv-loop μ-loop
-returns-2 c = let l = c .before in sym (sym (l .loop .inv .3) ∙ paths-end _ _ (l .loop .k) _ (c .loop-test .left))
+returns-2 c = let l = c .before in sym (sym (l .loop .inv .2) ∙ paths-end _ _ (l .loop .next) _ (c .loop-test .left))
 
 pub paths-rise-spec : {M : Type 1} → statement M
 paths-rise-spec =

@@ -23,27 +23,27 @@ module _ (tree : List ℕ) (n k : ℕ) (text : List ℕ) (test : Bool) (h : k < 
   stops : test ≡ false → rest tree n k ≡ false
   stops f = texts-step tree n k h ∙ rw (sym here ∙ f)
 
-  next : test ≡ true → rest tree n (k + 1) ≡ rest tree n k
-  next t = sym (texts-step tree n k h ∙ rw (sym here ∙ t))
+  goes-on : test ≡ true → rest tree n (k + 1) ≡ rest tree n k
+  goes-on t = sym (texts-step tree n k h ∙ rw (sym here ∙ t))
 
 all : (tree : List ℕ) (n : ℕ) → n ≡ fileCount tree → rest tree n 0 ≡ textsGood (sources tree)
 unfolding sources
 all tree n e = let m : n - 0 ≡ fileCount tree = omega arith in ap (λ i. textsGood (sourcesFrom tree i 0 4)) m
 
 abbrev Inv-loop : tie.InvT-loop
-Inv-loop tree n k₀ k = (k ≤ n) × (rest tree n k ≡ textsGood (sources tree))
+Inv-loop tree n file₀ file = rest tree n file ≡ textsGood (sources tree)
 
 abbrev μ-loop : tie.MeasureT-loop
-μ-loop tree n k₀ k = n - k
+μ-loop tree n file₀ file = n - file
 
 file-count-requires : tie.Need-file-count-requires Inv-loop μ-loop
 file-count-requires c κs = count-inside _ (c .before .pre)
 
 loop-holds : tie.Need-loop-holds Inv-loop μ-loop
-loop-holds c = (omega arith, all _ _ (c .file-count .ensures))
+loop-holds c = all _ _ (c .file-count .ensures .0)
 
 text-span-requires : tie.Need-text-span-requires Inv-loop μ-loop
-text-span-requires c κs = let f = c .before .before in (f .before .before .pre, omega (arith, f .file-count .ensures))
+text-span-requires c κs = let f = c .before .before in (f .before .before .pre, omega (arith, f .file-count .ensures .0))
 
 returns : tie.Need-returns Inv-loop μ-loop
 returns c =
@@ -52,7 +52,7 @@ returns c =
     let l = s .before .before in
     let tree = l .before .before .before .args .tree .now in
     let p = span-is tree _ _ _ _ (s .text-span .ensures .0) (s .text-span .ensures .1) in
-    sym (sym (l .loop .inv .1) ∙ stops tree _ (l .loop .k) _ _ (omega arith) p (call .is-utf8 .ensures) (not-true _ (c .if1 .taken)))
+    sym (sym (l .loop .inv) ∙ stops tree _ (l .loop .file) _ _ (omega arith) p (call .is-utf8 .ensures) (not-true _ (c .if1 .taken)))
 
 loop-again : tie.Need-loop-again Inv-loop μ-loop
 loop-again c =
@@ -61,10 +61,10 @@ loop-again c =
     let l = s .before .before in
     let tree = l .before .before .before .args .tree .now in
     let p = span-is tree _ _ _ _ (s .text-span .ensures .0) (s .text-span .ensures .1) in
-    (omega arith, next tree _ (l .loop .k) _ _ (omega arith) p (call .is-utf8 .ensures) (not-false _ (c .if1 .left)) ∙ l .loop .inv .1)
+    goes-on tree _ (l .loop .file) _ _ (omega arith) p (call .is-utf8 .ensures) (not-false _ (c .if1 .left)) ∙ l .loop .inv
 
 returns-2 : tie.Need-returns-2 Inv-loop μ-loop
-returns-2 c = let l = c .before in sym (sym (l .loop .inv .1) ∙ texts-end _ _ (l .loop .k) (c .loop-test .left))
+returns-2 c = let l = c .before in sym (sym (l .loop .inv) ∙ texts-end _ _ (l .loop .file) (c .loop-test .left))
 
 pub texts-good-spec : {M : Type 1} → statement M
 texts-good-spec =

@@ -1,5 +1,6 @@
 -- `tree::tree_refusal` meets its contract: each test is one of the definition's, in its order.
 use mathlib.Core.Path.{sym, _∙_}
+use native.Mathlib.Omega.{arith}
 use borrow.Author.Needs.{needs}
 use borrow.Author.Tests.{le-ltb, lt-ltb, not-false, not-true}
 use lib.ListN.{length}
@@ -10,13 +11,13 @@ use Rattle.tree.proofs.tree_refusal.Tie as tie
 
 returns : tie.Need-returns
 unfolding treeRefusal
-returns c = rw (lt-ltb maxTree (length (c .before .before .args .tree .now)) (c .if1 .taken))
+returns c = rw (lt-ltb maxTree (length (c .before .before .args .tree .now)) (omega arith))
 
 returns-2 : tie.Need-returns-2
 unfolding treeRefusal
 returns-2 c =
     let laid = c .before in
-    rw (le-ltb maxTree (length (laid .before .before .before .args .tree .now)) (laid .before .if1 .left), sym (laid .laid-out .ensures) ∙ not-true _ (c .if2 .taken))
+    rw (le-ltb maxTree (length (laid .before .before .before .args .tree .now)) (omega arith), sym (laid .laid-out .ensures) ∙ not-true _ (c .if2 .taken))
 
 paths-rise-requires : tie.Need-paths-rise-requires
 paths-rise-requires c κs = sym (c .before .laid-out .ensures) ∙ not-false _ (c .if2 .left)
@@ -28,7 +29,7 @@ returns-3 c =
     let two = paths .before in
     let laid = two .before in
     rw (
-      le-ltb maxTree (length (laid .before .before .before .args .tree .now)) (laid .before .if1 .left),
+      le-ltb maxTree (length (laid .before .before .before .args .tree .now)) (omega arith),
       sym (laid .laid-out .ensures) ∙ not-false _ (two .if2 .left),
       sym (paths .paths-rise .ensures) ∙ not-true _ (c .if3 .taken),
     )
@@ -45,7 +46,7 @@ returns-4 c =
     let two = paths .before in
     let laid = two .before in
     rw (
-      le-ltb maxTree (length (laid .before .before .before .args .tree .now)) (laid .before .if1 .left),
+      le-ltb maxTree (length (laid .before .before .before .args .tree .now)) (omega arith),
       sym (laid .laid-out .ensures) ∙ not-false _ (two .if2 .left),
       sym (paths .paths-rise .ensures) ∙ not-false _ (three .if3 .left),
       sym (texts .texts-good .ensures) ∙ not-true _ (c .if4 .taken),
@@ -60,7 +61,7 @@ returns-5 c =
     let two = paths .before in
     let laid = two .before in
     rw (
-      le-ltb maxTree (length (laid .before .before .before .args .tree .now)) (laid .before .if1 .left),
+      le-ltb maxTree (length (laid .before .before .before .args .tree .now)) (omega arith),
       sym (laid .laid-out .ensures) ∙ not-false _ (two .if2 .left),
       sym (paths .paths-rise .ensures) ∙ not-false _ (three .if3 .left),
       sym (texts .texts-good .ensures) ∙ not-false _ (c .if4 .left),
