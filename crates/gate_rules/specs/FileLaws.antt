@@ -1,14 +1,18 @@
 -- Where the files of a tree stand whose layout is kept, and one step of each walk over them.
 use Prim.Native.Nat.{ℕ, zero, suc, _+_, _-_, _*_, _≤_, _<_}
-use mathlib.Core.Path.{_≡_, ap, ap₂, subst}
+use mathlib.Core.Path.{_≡_, ap, ap₂, subst, _∙_}
 use mathlib.Core.Bool.{true, _&&_}
-use mathlib.Core.List.{List}
+use mathlib.Core.List.{List, _++_}
 use native.Mathlib.Omega.{arith}
-use lib.ListN.{length, take, drop}
+use lib.ListN.{length, take, drop, length-take, length-drop}
+use Rattle.text_rules.specs.Bytes.{putAt}
 use Rattle.text_rules.specs.BytesLaws.{and-left, and-right}
 use Rattle.text_rules.specs.Search.{part}
 use Rattle.text_rules.specs.Sizes.{maxFiles}
 use Rattle.text_rules.specs.Utf8.{isUtf8}
+use Rattle.source_rules.specs.Blank.{blanked}
+use Rattle.source_rules.specs.BlankLaws.{blanked-length}
+use Rattle.gate_rules.specs.Records.{blankInto}
 use Rattle.gate_rules.specs.ScanForms.{sources-end, sources-step}
 use Rattle.gate_rules.specs.Tree.{entriesFit, entryAt, entryFits, fileCount, isLaidOut, isPath, pathAt, pathBefore, pathLength, pathOffset, pathsRise, sourceAt, sourcesFrom, textIn, textLength, textOffset, textsGood}
 use Rattle.gate_rules.specs.TreeLaws.{entry-fits, laid-out}
@@ -89,3 +93,22 @@ module _ (tree : List ℕ) (n k : ℕ) where
   pub texts-end : n ≤ k → textsGood (sourcesFrom tree (n - k) k (4 + 16 * k)) ≡ true
   unfolding textsGood
   texts-end h = ap textsGood (sources-end tree n k k (4 + 16 * k) h)
+
+  pub blank-step : (work : List ℕ) → k < n
+      → blankInto (sourcesFrom tree (n - k) k (4 + 16 * k)) work
+      ≡ blankInto (sourcesFrom tree (n - (k + 1)) (k + 1) (4 + 16 * (k + 1))) (putAt (textOffset tree (entryAt k)) (blanked (textIn tree (entryAt k))) work)
+  unfolding blankInto sourceAt
+  blank-step work h = ap (λ fs. blankInto fs work) (sources-step tree n k h)
+
+  pub blank-end : (work : List ℕ) → n ≤ k → blankInto (sourcesFrom tree (n - k) k (4 + 16 * k)) work ≡ work
+  unfolding blankInto
+  blank-end work h = ap (λ fs. blankInto fs work) (sources-end tree n k k (4 + 16 * k) h)
+
+-- a text blanked between its bounds is put at its place
+pub blank-put : (tree work : List ℕ) (at size from to : ℕ) → from ≡ at → to ≡ at + size → at + size ≤ length tree
+    → take from work ++ blanked (part from to tree) ++ drop to work ≡ putAt at (blanked (take size (drop at tree))) work
+blank-put tree work at size from to e d h =
+    let text : part from to tree ≡ take size (drop at tree) = span-is tree at size from to e d in
+    let long : length (take size (drop at tree)) ≡ size = simp (length-take, length-drop) (omega arith) in
+    let n : to ≡ at + length (blanked (take size (drop at tree))) = omega (arith, blanked-length (take size (drop at tree))) in
+    ap₂ (λ i t. take i work ++ blanked t ++ drop to work) e text ∙ ap (λ j. take at work ++ blanked (take size (drop at tree)) ++ drop j work) n

@@ -33,7 +33,11 @@ pub fn room(bytes: usize) -> usize
     ensures { λ r. ⌜ r ≡ min 8192 (bytes / 32) ⌝ }
 {
     let whole = bytes / records::RECORD_WIDTH;
-    if whole < MAX_FUNCTIONS { whole } else { MAX_FUNCTIONS }
+    if whole < MAX_FUNCTIONS {
+        whole
+    } else {
+        MAX_FUNCTIONS
+    }
 }
 
 // The record with a number, at its place, if there is room for it.
