@@ -9,7 +9,7 @@ use borrow.Author.Tests.{eq-eqb, le-ltb, lt-ltb, ne-eqb}
 use lib.Dec.{eqb, ltb}
 use lib.ListN.{length, drop, getD, drop-of-length-le}
 use lib.Seq.{drop-cons}
-use Rattle.text_rules.specs.Classes.{lf, tab}
+use Rattle.text_rules.specs.Classes.{lf, slash, tab}
 use Rattle.text_rules.specs.Search.{has}
 use Rattle.text_rules.specs.Utf8.{isUtf8}
 use Rattle.gate_rules.specs.Functions.{isComment}
@@ -53,6 +53,16 @@ pub comment-first : (s : List ℕ) → (length s ≡ 0 → ⊥) → isComment s 
 unfolding isComment
 comment-first [] h = absurd (h refl)
 comment-first (b ∷ s) h = refl
+
+-- the order of a byte
+module _ (b : ℕ) where
+  pub rank-slash : b ≡ slash → rank b ≡ 0
+  unfolding rank
+  rank-slash e = rw (eq-eqb b slash e)
+
+  pub rank-other : (b ≡ slash → ⊥) → rank b ≡ b + 1
+  unfolding rank
+  rank-other n = rw (ne-eqb b slash n, add-one b)
 
 -- the ways that code goes through the tests of a path
 module _ (path : List ℕ) where
