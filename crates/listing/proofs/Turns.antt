@@ -1,15 +1,14 @@
 -- The turns of the writers' loops. `whole` is what is put in all: at each turn it is what stands in the output with the rest put behind it.
-use Prim.Native.Nat.{ℕ, suc, _+_, _-_, _≤_, _<_}
-use mathlib.Core.Path.{_≡_, ap, sym, _∙_}
+use Prim.Native.Nat.{ℕ, suc, _+_, _-_, _/_, _%_, _≤_, _<_}
+use mathlib.Core.Path.{_≡_, ap, ap₂, sym, _∙_}
 use mathlib.Core.List.{List, [], _∷_, _++_}
 use native.Mathlib.Omega.{arith}
-use native.Mathlib.Nat.{mod-eq-of-lt}
 use lib.Dec.{eqb}
 use lib.ListN.{length, drop, getD, set, replicate, drop-of-length-le}
 use Rattle.text_rules.specs.Bytes.{if_then_else_, putAt}
 use Rattle.text_rules.specs.Classes.{space, tab}
 use Rattle.text_rules.specs.Decimal.{decimal}
-use Rattle.text_rules.specs.DecimalSteps.{decimal-more, decimal-one}
+use Rattle.text_rules.specs.DecimalSteps.{decimal-more, decimal-one, length-more, length-one}
 use Rattle.text_rules.specs.ScanLaws.{split}
 use Rattle.text_rules.specs.WriterLaws.{put-first, put-last, put-none}
 use Rattle.gate_rules.specs.Check.{spaced}
@@ -54,3 +53,21 @@ module _ (at i : ℕ) (out whole : List ℕ) where
   spaces-end count h e =
       let none : 0 ≡ count - i = omega arith in
       sym (put-none (at + i) out) ∙ ap (λ n. putAt (at + i) (replicate n space) out) none ∙ e
+
+-- digits are stored from the last to the first: what is still to be put stands before `last`, where its own last digit goes
+module _ (at rest last : ℕ) (out whole : List ℕ) (inside : last < length out) (place : last + 1 ≡ at + length (decimal rest)) where
+  pub digit-turn : 10 ≤ rest → putAt at (decimal rest) out ≡ whole → putAt at (decimal (rest / 10)) (set out last (48 + rest % 10)) ≡ whole
+  digit-turn h e =
+      let behind : last ≡ at + length (decimal (rest / 10)) = omega (arith, length-more rest h) in
+      ap (λ n. putAt at (decimal (rest / 10)) (set out n (48 + rest % 10))) behind
+      ∙ put-last at (48 + rest % 10) (decimal (rest / 10)) out (omega arith)
+      ∙ ap (λ l. putAt at l out) (sym (decimal-more rest h))
+      ∙ e
+
+  pub digit-end : rest < 10 → putAt at (decimal rest) out ≡ whole → set out last (48 + rest) ≡ whole
+  digit-end h e =
+      let first : last ≡ at = omega (arith, length-one rest h) in
+      sym (put-none (last + 1) (set out last (48 + rest)))
+      ∙ put-first last (48 + rest) [] out inside
+      ∙ ap₂ (λ n l. putAt n l out) first (sym (decimal-one rest h))
+      ∙ e
