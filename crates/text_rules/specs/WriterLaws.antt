@@ -8,7 +8,7 @@ use native.Mathlib.Numerals.{add-one}
 use lib.ListN.{length, take, drop, set, length-append, take-append-drop}
 use lib.Seq.{append-snoc, drop-at, drop-set-lt, length-take-le, set-split, take-set-le, take-suc-set}
 use Rattle.text_rules.specs.Bytes.{joined, putAt, total}
-use Rattle.text_rules.specs.PutLaws.{put-next}
+use Rattle.text_rules.specs.PutLaws.{put-length, put-next}
 
 -- nothing is left to put
 pub put-none : (at : ℕ) (s : List ℕ) → putAt at [] s ≡ s
@@ -41,11 +41,24 @@ put-then at next xs ys s t u h place e f =
     let room : at + length xs + length ys ≤ length s = omega (arith, length-append xs ys) in
     f ∙ ap₂ (λ n l. putAt n ys l) place e ∙ put-next at xs ys s room
 
--- the last part of several
-pub put-end : (at : ℕ) (xs s t : List ℕ) → t ≡ putAt at xs s → t ≡ putAt at (joined (xs ∷ [])) s
-put-end at xs s t e = e ∙ ap (λ l. putAt at l s) (sym (append-nil xs))
-
 -- texts one after another have the length of all
 pub joined-length : (ts : List (List ℕ)) → length (joined ts) ≡ total length ts
 joined-length [] = omega arith
 joined-length (t ∷ ts) = length-append t (joined ts) ∙ ap (λ n. length t + n) (joined-length ts)
+
+-- parts put one behind the other, from `at` to `next`: where they fit, they are put at once. Built from what each writer ensures, `puts-then first (puts-then second puts-none)`
+pub record Puts (at : ℕ) (s : List ℕ) (parts : List (List ℕ)) (next : ℕ) (t : List ℕ) : Type 0 where
+  pub whole : at + length (joined parts) ≤ length s → (next ≡ at + length (joined parts)) × (t ≡ putAt at (joined parts) s)
+
+pub puts-none : {at : ℕ} {s : List ℕ} → Puts at s [] at s
+puts-none {at} {s} = record { whole = λ h. (omega arith, sym (put-none at s)) }
+
+pub puts-then : {at place next : ℕ} {xs s t u : List ℕ} {parts : List (List ℕ)} → (place ≡ at + length xs) × (t ≡ putAt at xs s) → Puts place t parts next u → Puts at s (xs ∷ parts) next u
+puts-then {at} {place} {next} {xs} {s} {t} {u} {parts} e more =
+    record {
+      whole = λ h.
+          let size : length (xs ++ joined parts) ≡ length xs + length (joined parts) = length-append xs (joined parts) in
+          let kept : length t ≡ length s = ap length (e .1) ∙ put-length at xs s (omega arith) in
+          let rest = more .whole (omega (arith, e .0)) in
+          (omega (arith, e .0, rest .0), put-then at place xs (joined parts) s t u h (e .0) (e .1) (rest .1));
+    }

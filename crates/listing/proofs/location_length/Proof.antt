@@ -1,18 +1,15 @@
 -- `listing::location_length` meets its contract: the lengths of the five parts are added.
-use mathlib.Core.List.{[], _∷_}
 use native.Mathlib.Omega.{arith}
 use denote.Ref.{now}
 use borrow.Author.Needs.{needs}
-use Rattle.text_rules.specs.Bytes.{ascii}
-use Rattle.text_rules.specs.Decimal.{decimal}
-use Rattle.text_rules.specs.WriterLaws.{joined-length}
+use Rattle.listing.specs.Texts.{located-length}
 use Rattle.listing.proofs.location_length.Statement.{statement}
 use Rattle.listing.proofs.location_length.Tie as tie
 
 returns : tie.Need-returns
 returns c =
     let a = c .before .before .before .args in
-    omega (arith, joined-length (now (a .path) ∷ ascii ":" ∷ decimal (a .line) ∷ ascii " " ∷ now (a .name) ∷ []))
+    omega (arith, located-length (now (a .path)) (a .line) (now (a .name)))
 
 pub location-length-spec : {M : Type 1} → statement M
 location-length-spec =
