@@ -52,22 +52,22 @@ pub fn put_spaces(out: &mut [u8], at: usize, count: usize) -> usize
     requires { ⌜ at + count ≤ length (now out) ⌝ }
     ensures { λ r. ⌜ (r ≡ at + count) × (now (out .exit) ≡ putAt at (replicate count space) (now (out .entry))) ⌝ }
 {
-    let mut i = 0;
-    while i < count {
-        out[at + i] = b' ';
-        i += 1;
+    let mut done = 0;
+    while done < count {
+        out[at + done] = b' ';
+        done += 1;
     }
-    at + i
+    at + done
 }
 
 // How many digits a number has in decimal.
 pub fn digits(n: u64) -> usize
     ensures { λ r. ⌜ (r ≡ length (decimal n)) × (1 ≤ r) × (r ≤ 20) ⌝ }
 {
-    let mut rest = n;
+    let mut left = n;
     let mut count = 1;
-    while rest >= 10 {
-        rest = rest / 10;
+    while left >= 10 {
+        left = left / 10;
         count += 1;
     }
     count

@@ -11,19 +11,19 @@ use Rattle.listing.proofs.digits.Statement.{statement}
 use Rattle.listing.proofs.digits.Tie as tie
 
 abbrev Inv-loop : tie.InvT-loop
-Inv-loop n rest₀ count₀ rest count = (1 ≤ count) × (count ≤ 20) × (count + length (decimal rest) ≡ 1 + length (decimal n))
+Inv-loop n left₀ count₀ left count = (1 ≤ count) × (count ≤ 20) × (count + length (decimal left) ≡ 1 + length (decimal n))
 
 abbrev μ-loop : tie.MeasureT-loop
-μ-loop n rest₀ count₀ rest count = rest
+μ-loop n left₀ count₀ left count = left
 
 loop-again : tie.Need-loop-again Inv-loop μ-loop
 loop-again c =
     let l = c .before in
     let n = l .before .args .n in
-    omega (arith, length-more (l .loop .rest) (omega arith), length-some (l .loop .rest / 10), decimal-length-u64 n (omega arith))
+    omega (arith, length-more (l .loop .left) (omega arith), length-some (l .loop .left / 10), decimal-length-u64 n (omega arith))
 
 returns : tie.Need-returns Inv-loop μ-loop
-returns c = omega (arith, length-one (c .before .loop .rest) (omega arith))
+returns c = omega (arith, length-one (c .before .loop .left) (omega arith))
 
 pub digits-spec : {M : Type 1} → statement M
 digits-spec = tie.close (tie.spec Inv-loop μ-loop (λ c. omega arith) (λ c. search needs) (λ c. search needs) loop-again returns)

@@ -11,10 +11,10 @@ use Rattle.listing.proofs.put_spaces.Statement.{statement}
 use Rattle.listing.proofs.put_spaces.Tie as tie
 
 abbrev Inv-loop : tie.InvT-loop
-Inv-loop out₀ at count i₀ out i = (i ≤ count) × (length out ≡ length out₀) × (putAt (at + i) (replicate (count - i) space) out ≡ putAt at (replicate count space) out₀)
+Inv-loop out₀ at count done₀ out done = (done ≤ count) × (length out ≡ length out₀) × (putAt (at + done) (replicate (count - done) space) out ≡ putAt at (replicate count space) out₀)
 
 abbrev μ-loop : tie.MeasureT-loop
-μ-loop out₀ at count i₀ out i = count - i
+μ-loop out₀ at count done₀ out done = count - done
 
 loop-holds : tie.Need-loop-holds Inv-loop μ-loop
 loop-holds c = (omega arith, refl, spaces-begin (c .args .at) (c .args .count) (c .args .out .now))
@@ -23,13 +23,13 @@ loop-again : tie.Need-loop-again Inv-loop μ-loop
 loop-again c =
     let l = c .before in
     let a = l .before .args in
-    (omega arith, simp length-set (l .loop .inv .1), spaces-turn (a .at) (l .loop .i) (l .loop .out) _ (omega arith) (a .count) (omega arith) (l .loop .inv .2))
+    (omega arith, simp length-set (l .loop .inv .1), spaces-turn (a .at) (l .loop .done) (l .loop .out) _ (omega arith) (a .count) (omega arith) (l .loop .inv .2))
 
 returns : tie.Need-returns Inv-loop μ-loop
 returns c =
     let l = c .before in
     let a = l .before .args in
-    (omega arith, spaces-end (a .at) (l .loop .i) (l .loop .out) _ (a .count) (omega arith) (l .loop .inv .2))
+    (omega arith, spaces-end (a .at) (l .loop .done) (l .loop .out) _ (a .count) (omega arith) (l .loop .inv .2))
 
 pub put-spaces-spec : {M : Type 1} → statement M
 put-spaces-spec =
