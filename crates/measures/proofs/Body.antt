@@ -1,8 +1,8 @@
 -- A body: one step of its depth and lines, its pieces, and the jump over a piece.
 use Prim.Native.Nat.{ℕ, suc, pred, _+_, _-_, _≤_, _<_, max}
-use mathlib.Core.Path.{_≡_, ap, sym, _∙_}
+use mathlib.Core.Path.{_≡_, refl, ap, sym, _∙_}
 use mathlib.Core.Logic.{_≢_}
-use mathlib.Core.Bool.{true, false}
+use mathlib.Core.Bool.{true, false, _||_, or-false}
 use mathlib.Core.List.{List, [], _∷_}
 use native.Mathlib.Numerals.{add-one, sub-one}
 use native.Mathlib.Omega.{arith}
@@ -11,7 +11,7 @@ use lib.ListN.{drop, getD, length, length-drop}
 use lib.Seq.{drop-drop, getD-drop}
 use borrow.Author.Tests.{eq-eqb, ne-eqb}
 use Rattle.text_rules.specs.Bytes.{among, ascii, if_then_else_}
-use Rattle.text_rules.specs.Classes.{braceClose, braceOpen, isLetter, isWord, lf, question}
+use Rattle.text_rules.specs.Classes.{ampersand, angleClose, bar, braceClose, braceOpen, equals, isLetter, isWord, lf, question}
 use Rattle.text_rules.specs.Search.{countAfter, opens, part, run}
 use Rattle.source_rules.specs.Brackets.{depthAfter}
 use Rattle.source_rules.specs.BracketsLaws.{depth-close, depth-open, depth-other}
@@ -71,6 +71,20 @@ module _ (s : List ℕ) (at : ℕ) (h : at < length s) where
 
     pub cyclomatic-same : decides (drop at s) ≡ false → cyclomaticFrom n 0 (drop at s) ≡ cyclomaticFrom n 0 (drop (at + pieceLength (drop at s)) s)
     cyclomatic-same e = cyclomatic-jump n ∙ rw e
+
+-- a pair whose first byte is known
+module _ (c : ℕ) where
+  pub pair-and : isPair (ampersand ∷ c ∷ []) ≡ eqb c ampersand
+  unfolding isPair opens
+  pair-and = or-false (eqb c ampersand || false) ∙ or-false (eqb c ampersand)
+
+  pub pair-or : isPair (bar ∷ c ∷ []) ≡ eqb c bar
+  unfolding isPair opens
+  pair-or = or-false (eqb c bar)
+
+  pub pair-arrow : isPair (equals ∷ c ∷ []) ≡ eqb c angleClose
+  unfolding isPair opens
+  pair-arrow = refl
 
 module _ (s : List ℕ) (at : ℕ) where
   pub pair-at : isPair (drop at s) ≡ isPair (getD s at 0 ∷ getD s (at + 1) 0 ∷ [])
