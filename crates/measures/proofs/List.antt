@@ -93,26 +93,6 @@ module _ (s : List ℕ) (at : ℕ) where
       pub head-keeps : (eqb (getD s at 0) ampersand || eqb (getD s at 0) space) ≡ false → head (drop at s) ≡ getD s at 0 ∷ head (drop (at + 1) s)
       head-keeps t = ap head (split s at h) ∙ keeps (getD s at 0) (drop (at + 1) s) (ne-eqb _ _ n) t
 
--- a word from its byte i on, as the beginning of a text
-module _ (word : List ℕ) (i : ℕ) where
-  pub begins-end : (t : List ℕ) → length word ≤ i → startsWith (drop i word) t ≡ true
-  unfolding startsWith
-  begins-end t h = rw (drop-of-length-le word h)
-
-  module _ (h : i < length word) (t : List ℕ) where
-    pub begins-none : t ≡ [] → startsWith (drop i word) t ≡ false
-    unfolding startsWith
-    begins-none e = rw (e, split word i h)
-
-    module _ (b : ℕ) (r : List ℕ) (e : t ≡ b ∷ r) where
-      pub begins-stop : b ≢ getD word i 0 → startsWith (drop i word) t ≡ false
-      unfolding startsWith
-      begins-stop n = rw (e, split word i h, ne-eqb b (getD word i 0) n)
-
-      pub begins-more : b ≡ getD word i 0 → startsWith (drop i word) t ≡ startsWith (drop (i + 1) word) r
-      unfolding startsWith
-      begins-more q = rw (e, split word i h, eq-eqb b (getD word i 0) q)
-
 -- self is one of two words
 module _ (s : List ℕ) where
   pub self-first : startsWith (ascii "self") (head s) ≡ true → takesSelf s ≡ true

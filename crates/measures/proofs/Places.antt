@@ -1,19 +1,13 @@
 -- A text at a place, as a loop reads it: the byte there and the text from the next place on.
-use Prim.Native.Nat.{ℕ, suc, _+_, _-_, _≤_, _<_}
-use mathlib.Core.Path.{_≡_, refl, ap, _∙_}
-use mathlib.Core.Logic.{_≢_, inl, inr}
-use mathlib.Core.Bool.{Bool, true, false, _&&_, or-false}
-use mathlib.Core.List.{List, [], _∷_}
+use Prim.Native.Nat.{ℕ, suc, _+_, _≤_, _<_}
+use mathlib.Core.Path.{_≡_}
+use mathlib.Core.Bool.{Bool, true, false}
+use mathlib.Core.List.{List, _∷_}
 use native.Mathlib.Nat.{add-zero}
 use native.Mathlib.Numerals.{add-one}
-use native.Mathlib.Omega.{arith}
-use lib.Dec.{eqb}
 use lib.ListN.{drop, drop-of-length-le, getD, length}
 use lib.Seq.{drop-cons, getD-drop}
-use borrow.Author.Tests.{eq-eqb, ne-eqb}
-use Rattle.text_rules.specs.Bytes.{among, same}
-use Rattle.text_rules.specs.BytesLaws.{same-true, whether}
-use Rattle.text_rules.specs.Search.{endsIn, run}
+use Rattle.text_rules.specs.Search.{run}
 
 pub split : (s : List ℕ) (i : ℕ) → i < length s → drop i s ≡ getD s i 0 ∷ drop (i + 1) s
 split s i h = rw (add-one, drop-cons s i 0)
@@ -34,41 +28,3 @@ module _ (s : List ℕ) (i : ℕ) (f : ℕ → Bool) where
   pub run-end : length s ≤ i → run f (drop i s) ≡ 0
   unfolding run
   run-end h = rw (drop-of-length-le s h)
-
--- the last byte
-pub ends-last : (x : ℕ) (s : List ℕ) → 1 ≤ length s → endsIn x s ≡ eqb (getD s (length s - 1) 0) x
-unfolding endsIn
-ends-last x [] h = absurd (omega arith)
-ends-last x (b ∷ []) h = refl
-ends-last x (b ∷ c ∷ s) h =
-    let e : suc (length (c ∷ s) - 1) ≡ length (b ∷ c ∷ s) - 1 = omega arith in
-    ends-last x (c ∷ s) (omega arith) ∙ ap (λ k. eqb (getD (b ∷ c ∷ s) k 0) x) e
-
--- two texts, byte by byte
-pub same-length : (s t : List ℕ) → length s ≢ length t → same s t ≡ false
-same-length s t n = elim (whether (same s t)) [ inl e ↦ absurd (n (ap length (same-true s t e))) | inr e ↦ e ]
-
-module _ (s t : List ℕ) (i : ℕ) where
-  module _ (h : i < length s) (k : i < length t) where
-    same-step : same (drop i s) (drop i t) ≡ (eqb (getD s i 0) (getD t i 0) && same (drop (i + 1) s) (drop (i + 1) t))
-    same-step = rw (split s i h, split t i k)
-
-    pub same-more : getD s i 0 ≡ getD t i 0 → same (drop i s) (drop i t) ≡ same (drop (i + 1) s) (drop (i + 1) t)
-    same-more e = same-step ∙ rw (eq-eqb _ _ e)
-
-    pub same-stop : getD s i 0 ≢ getD t i 0 → same (drop i s) (drop i t) ≡ false
-    same-stop e = same-step ∙ rw (ne-eqb _ _ e)
-
-  pub same-end : length s ≤ i → length t ≤ i → same (drop i s) (drop i t) ≡ true
-  same-end h k = rw (drop-of-length-le s h, drop-of-length-le t k)
-
--- a text among others: it is the first, or it is looked for among the rest
-module _ (w t : List ℕ) where
-  pub among-here : (ts : List (List ℕ)) → same t w ≡ true → among w (t ∷ ts) ≡ true
-  among-here ts e = rw e
-
-  pub among-next : (ts : List (List ℕ)) → same t w ≡ false → among w (t ∷ ts) ≡ among w ts
-  among-next ts e = rw e
-
-  pub among-last : among w (t ∷ []) ≡ same t w
-  among-last = or-false (same t w)

@@ -8,8 +8,8 @@ ghost use Prim.Native.Nat.{_+_, _-_, _≤_, _<_, max};
 ghost use lib.Dec.{eqb};
 ghost use lib.ListN.{length, drop};
 ghost use Rattle.text_rules.specs.Bytes.{among, ascii, same};
-ghost use Rattle.text_rules.specs.Classes.{isWord};
-ghost use Rattle.text_rules.specs.Search.{run, startsWith};
+ghost use Rattle.text_rules.specs.Classes.{comma, isWord};
+ghost use Rattle.text_rules.specs.Search.{endsIn, run, startsWith};
 ghost use Rattle.source_rules.specs.Measures.{cyclomaticOf, isPair};
 ghost use Rattle.source_rules.specs.Parameters.{counted, isClosing, isOpening, one, paramsOf, partsFrom, takesSelf};
 ghost use Rattle.measures.specs.Walks.{Measured, PieceAt, Shaped, head};
@@ -116,13 +116,20 @@ fn less_one(n: usize, test: bool) -> usize
     if n == 0 { 0 } else { n - 1 }
 }
 
+// Whether the last byte is a comma.
+fn ends_in_comma(s: &[u8]) -> bool
+    requires { ⌜ 0 < length (now s) ⌝ }
+    ensures { λ r. ⌜ r ≡ endsIn comma (now (s .entry)) ⌝ }
+{
+    s[s.len() - 1] == b','
+}
+
 // The parameters of a list that begins and ends with no white space: its parts, without the one behind a last comma and without self.
 fn count_trimmed(s: &[u8]) -> usize
     requires { ⌜ 0 < length (now s) ⌝ }
     ensures { λ r. ⌜ r ≡ counted (now (s .entry)) ⌝ }
 {
-    let trailing = s[s.len() - 1] == b',';
-    less_one(less_one(parts(s), trailing), takes_self(s))
+    less_one(less_one(parts(s), ends_in_comma(s)), takes_self(s))
 }
 
 // The parameters of the text between the brackets, without self.

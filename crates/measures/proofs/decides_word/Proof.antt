@@ -2,7 +2,7 @@
 use mathlib.Core.Path.{_∙_, sym}
 use mathlib.Core.List.{[], _∷_}
 use Rattle.text_rules.specs.Bytes.{ascii}
-use Rattle.measures.proofs.Places.{among-here, among-last, among-next}
+use Rattle.text_rules.specs.TextSteps.{among-here, among-last, among-next}
 use borrow.Author.Needs.{needs}
 use Rattle.measures.proofs.decides_word.Statement.{statement}
 use Rattle.measures.proofs.decides_word.Tie as tie

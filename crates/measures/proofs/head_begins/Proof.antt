@@ -6,7 +6,8 @@ use borrow.Author.Tests.{not-false, not-true}
 use lib.ListN.{drop, getD, length}
 use Rattle.text_rules.specs.Search.{startsWith}
 use Rattle.measures.specs.Walks.{head}
-use Rattle.measures.proofs.List.{begins-end, begins-more, begins-none, begins-stop, head-comma, head-end, head-keeps, head-leaves}
+use Rattle.measures.proofs.List.{head-comma, head-end, head-keeps, head-leaves}
+use Rattle.text_rules.specs.TextSteps.{begins-end, begins-more, begins-none, begins-stop}
 use Rattle.measures.proofs.head_begins.Statement.{statement}
 use Rattle.measures.proofs.head_begins.Tie as tie
 
