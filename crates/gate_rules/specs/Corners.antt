@@ -1,29 +1,26 @@
--- Small named cases, one theorem: each rules out a definition that is wrong in one place and right elsewhere.
+-- Small named cases, one theorem, those of texts among them: each rules out a definition that is wrong in one place and right elsewhere.
 use Prim.Native.Nat.{ℕ}
 use mathlib.Core.Path.{_≡_, refl}
 use mathlib.Core.List.{List, [], _∷_, map}
 use mathlib.Core.Option.{some}
+use lib.ListN.{replicate}
 use Rattle.text_rules.specs.Bytes.{ascii}
 use Rattle.text_rules.specs.Search.{run}
-use Rattle.source_rules.specs.Blank.{blanked}
-use Rattle.source_rules.specs.Measures.{cyclomaticOf, nestingOf}
-use Rattle.source_rules.specs.Parameters.{paramsOf}
+use Rattle.source_rules.specs.TextCorners.{TextCorners, text-corners}
 use Rattle.source_rules.specs.TextScan.{functions}
 use Rattle.gate_rules.specs.Baseline.{Entry, entries, lookup}
+use Rattle.gate_rules.specs.Calls.{updateAnswer}
 use Rattle.gate_rules.specs.Check.{listing, stale}
 use Rattle.gate_rules.specs.Computes.{everything}
+use Rattle.gate_rules.specs.Exports.{exportedCheck}
 use Rattle.gate_rules.specs.Functions.{Fun, gateLimits}
+use Rattle.gate_rules.specs.Gate.{functionsOfFiles, gate}
 use Rattle.gate_rules.specs.Mean.{meanText}
-use Rattle.gate_rules.specs.Report.{reported}
+use Rattle.gate_rules.specs.Pack.{InputFile, packed}
+use Rattle.gate_rules.specs.Report.{heaviest, reported, weights}
+use Rattle.gate_rules.specs.Scan.{File}
+use Rattle.gate_rules.specs.Tree.{treeRefusal}
 use Rattle.gate_rules.specs.Update.{baselineText, recorded}
-
--- the names of a text's functions
-abbrev pub names : List ℕ → List (List ℕ)
-names text = map (λ f. f .name) (functions text)
-
--- where the functions of a text stand, and how many lines they have
-abbrev pub spread : List ℕ → List (List ℕ)
-spread text = map (λ f. f .nameAt ∷ f .line ∷ f .lines ∷ []) (functions text)
 
 abbrev pub fun : (path name : List ℕ) (cyclomatic nesting : ℕ) → Fun
 fun p n c d = record { path = p; name = n; line = 1; lines = 1; cyclomatic = c; nesting = d; params = 0 }
@@ -31,54 +28,14 @@ fun p n c d = record { path = p; name = n; line = 1; lines = 1; cyclomatic = c; 
 abbrev pub entry : (path name : List ℕ) (cyclomatic lines : ℕ) → Entry
 entry p n c l = record { path = p; name = n; cyclomatic = c; lines = l }
 
+abbrev pub file : (path text : List ℕ) → InputFile
+file p t = record { path = p; text = t }
+
+abbrev pub blankFile : (path blanked : List ℕ) → File
+blankFile p t = record { path = p; blanked = t }
+
 pub record Corners : Type 0 where
-  -- blanking
-  pub line-comment : blanked (ascii "a//b\nc") ≡ ascii "a   \nc"
-  pub block-lines : blanked (ascii "/*\n*/c") ≡ ascii "  \n  c"
-  pub marks-apart : blanked (ascii "/*/a*/b") ≡ ascii "      b"
-  pub open-comment : blanked (ascii "/*a") ≡ ascii "   "
-  pub string-escape : blanked (ascii "\"a\\\"b\"c") ≡ ascii "      c"
-  pub raw-bytes : blanked (ascii "br\"a\\\"b") ≡ ascii "      b"
-  pub raw-after-word : blanked (ascii "_r\"a\\\"b\"c") ≡ ascii "_r      c"
-  pub raw-hashes : blanked (ascii "r##\"a\"#\"##b") ≡ ascii "          b"
-  pub escape-of-11 : blanked (ascii "'\\123456789'a") ≡ ascii "            a"
-  pub escape-of-12 : blanked (ascii "'\\1234567890'") ≡ ascii "'\\1234567890'"
-  pub plain-character : blanked (ascii "'{'a") ≡ ascii "   a"
-  pub wide-character : blanked (39 ∷ 195 ∷ 169 ∷ 39 ∷ []) ≡ 39 ∷ 195 ∷ 169 ∷ 39 ∷ []
-  -- finding
-  pub digit-after-fn : names (ascii "fn1 a(){}") ≡ []
-  pub letter-before-fn : names (ascii "xfn a(){}") ≡ []
-  pub tab-before-name : names (ascii "fn\ta(){}") ≡ ascii "a" ∷ []
-  pub no-body : names (ascii "fn a();fn b(){}") ≡ ascii "b" ∷ []
-  pub square-return : names (ascii "fn a()->[u8;2]{}") ≡ ascii "a" ∷ []
-  pub angle-return : spread (ascii "fn a()->A<{\n}>{}") ≡ (3 ∷ 1 ∷ 1 ∷ []) ∷ []
-  pub arrow-return : names (ascii "fn a()->u8{}") ≡ ascii "a" ∷ []
-  pub square-below : names (ascii "fn a()]{}") ≡ []
-  pub inner-function : names (ascii "fn a(){fn b(){}}fn c(){}") ≡ ascii "a" ∷ ascii "c" ∷ []
-  pub raw-name : names (ascii "fn r#type(){}") ≡ ascii "r" ∷ []
-  pub test-span : names (ascii "#[cfg(test)]mod t{fn a(){}}fn b(){}") ≡ ascii "b" ∷ []
-  pub span-of-use : names (ascii "#[cfg(test)]use x;fn a(){}fn b(){}") ≡ ascii "b" ∷ []
-  pub open-span : names (ascii "#[cfg(test)]{fn a(){}") ≡ ascii "a" ∷ []
-  -- a span may begin in a body and go beyond it, so the search for spans does not jump over bodies
-  pub span-from-body : names (ascii "fn a(){#[cfg(test)]}fn b(){}fn c(){}") ≡ ascii "a" ∷ ascii "c" ∷ []
-  -- measures
-  pub lines-of-body : spread (ascii "\nfn a\n(){\n}") ≡ (4 ∷ 2 ∷ 2 ∷ []) ∷ []
-  pub whole-words : cyclomaticOf (ascii "{iffy if_ match else}") ≡ 1
-  pub four-words : cyclomaticOf (ascii "{if while for loop}") ≡ 5
-  -- a digit does not begin a word, and so does not hide one
-  pub word-after-digit : cyclomaticOf (ascii "{1if}") ≡ 2
-  pub pairs-apart : cyclomaticOf (ascii "{&&&|||=>=}") ≡ 4
-  pub blocks-beside : nestingOf (ascii "{{}{{}}{}}") ≡ 3
-  -- parameters
-  pub white-only : paramsOf (0xE3 ∷ 0x80 ∷ 0x80 ∷ 9 ∷ []) ≡ 0
-  pub trailing-comma : paramsOf (ascii "x,") ≡ 1
-  pub trailing-white : paramsOf (120 ∷ 44 ∷ 0xC2 ∷ 0xA0 ∷ []) ≡ 1
-  pub angle-opens : paramsOf (ascii "x:A<b>,y") ≡ 2
-  pub angle-holds : paramsOf (ascii "x:A<b,c>") ≡ 1
-  pub function-type : paramsOf (ascii "f: fn(u8) -> u8, b") ≡ 1
-  pub self-first : paramsOf (ascii "&mut self, a, b") ≡ 2
-  pub self-after-tab : paramsOf (ascii "&\tself") ≡ 1
-  pub selfish : paramsOf (ascii "selfish: u8") ≡ 0
+  pub texts : TextCorners
   -- the baseline: the last of equal keys, CR before LF and CR at the end, +, a fifth field, numbers past u32, comments
   pub read-back :
       entries (ascii "# x\ta\t1\t1\np\tf\t1\t2\r\np\tf\t+03\t4\tmore\n\np\tf\t5\nq\tf\t4294967296\t1\nq\tf\t1\t18446744073709551615\nq\tf\t1\t2\r")
@@ -106,52 +63,23 @@ pub record Corners : Type 0 where
   pub equal-passes : listing gateLimits (entry (ascii "a.rs") (ascii "f") 3 1 ∷ []) (fun (ascii "a.rs") (ascii "f") 3 9 ∷ []) ≡ ascii "complexity: no function got worse, nothing new is over the thresholds\n"
   pub mean-none : meanText 0 0 ≡ ascii "0.0"
   pub mean-large : meanText 16777215 2 ≡ ascii "8388607.5"
+  -- trees: a text that is not UTF-8; `/` below every other byte; 3 before 4
+  pub bad-text : treeRefusal (packed (file (ascii "a") (0xFF ∷ []) ∷ [])) ≡ 4
+  pub slash-below : treeRefusal (packed (file (ascii "a/b") [] ∷ file (ascii "a.b") [] ∷ [])) ≡ 0
+  pub slash-above : treeRefusal (packed (file (ascii "a.b") [] ∷ file (ascii "a/b") [] ∷ [])) ≡ 3
+  pub path-first : treeRefusal (packed (file (ascii "a") (0xFF ∷ []) ∷ file (ascii "#") [] ∷ [])) ≡ 3
+  -- ten of eleven files, the lightest left out; and a file with one function counts, one without does not
+  pub ten-files : map (λ w. w .sum) (heaviest (map (λ n. record { path = n ∷ []; functions = 1; sum = n }) (3 ∷ 1 ∷ 4 ∷ 15 ∷ 9 ∷ 2 ∷ 6 ∷ 5 ∷ 35 ∷ 8 ∷ 97 ∷ []))) ≡ 97 ∷ 35 ∷ 15 ∷ 9 ∷ 8 ∷ 6 ∷ 5 ∷ 4 ∷ 3 ∷ 2 ∷ []
+  pub small-files : map (λ w. w .path) (weights functionsOfFiles (blankFile (ascii "a") (ascii "fn a(){}") ∷ blankFile (ascii "b") [] ∷ [])) ≡ ascii "a" ∷ []
+  -- one row is recorded; 16 bytes hold check's counts, 15 do not
+  pub one-recorded : updateAnswer gateLimits 0 (fun (ascii "a") (ascii "f") 16 1 ∷ fun (ascii "a") (ascii "g") 1 1 ∷ []) .recorded ≡ 1
+  pub count-bytes : map (λ n. exportedCheck gate gateLimits (packed []) [] (ascii "0123") [] (replicate 100 0) (replicate n 0) .number) (15 ∷ 16 ∷ []) ≡ 5 ∷ 0 ∷ []
 
 pub corners : Corners
 unfolding everything
 corners =
     record {
-      line-comment = refl;
-      block-lines = refl;
-      marks-apart = refl;
-      open-comment = refl;
-      string-escape = refl;
-      raw-bytes = refl;
-      raw-after-word = refl;
-      raw-hashes = refl;
-      escape-of-11 = refl;
-      escape-of-12 = refl;
-      plain-character = refl;
-      wide-character = refl;
-      digit-after-fn = refl;
-      letter-before-fn = refl;
-      tab-before-name = refl;
-      no-body = refl;
-      square-return = refl;
-      angle-return = refl;
-      arrow-return = refl;
-      square-below = refl;
-      inner-function = refl;
-      raw-name = refl;
-      test-span = refl;
-      span-of-use = refl;
-      open-span = refl;
-      span-from-body = refl;
-      lines-of-body = refl;
-      whole-words = refl;
-      four-words = refl;
-      word-after-digit = refl;
-      pairs-apart = refl;
-      blocks-beside = refl;
-      white-only = refl;
-      trailing-comma = refl;
-      trailing-white = refl;
-      angle-opens = refl;
-      angle-holds = refl;
-      function-type = refl;
-      self-first = refl;
-      self-after-tab = refl;
-      selfish = refl;
+      texts = text-corners;
       read-back = refl;
       last-wins = refl;
       not-utf8 = refl;
@@ -163,4 +91,12 @@ corners =
       equal-passes = refl;
       mean-none = refl;
       mean-large = refl;
+      bad-text = refl;
+      slash-below = refl;
+      slash-above = refl;
+      path-first = refl;
+      ten-files = refl;
+      small-files = refl;
+      one-recorded = refl;
+      count-bytes = refl;
     }

@@ -12,13 +12,13 @@ use lib.Seq.{drop-drop, getD-drop}
 use borrow.Author.Tests.{eq-eqb, ne-eqb}
 use Rattle.text_rules.specs.Bytes.{among, ascii, if_then_else_}
 use Rattle.text_rules.specs.Classes.{ampersand, angleClose, bar, braceClose, braceOpen, equals, isLetter, isWord, lf, question}
+use Rattle.text_rules.specs.ScanLaws.{head-at, split}
 use Rattle.text_rules.specs.Search.{countAfter, opens, part, run}
 use Rattle.source_rules.specs.Brackets.{depthAfter}
 use Rattle.source_rules.specs.BracketsLaws.{depth-close, depth-open, depth-other}
 use Rattle.source_rules.specs.Measures.{cyclomaticFrom, decides, deepest, isPair, lineAt, pieceLength}
 use Rattle.source_rules.specs.PieceLaws.{cyclomatic-skipLeft, piece-inside}
 use Rattle.source_rules.specs.WalkSteps.{cyclomatic-step, deepest-step, line-step}
-use Rattle.measures.proofs.Places.{head-at, split}
 
 module _ (s : List ℕ) (at : ℕ) (h : at < length s) where
   abbrev b : ℕ

@@ -12,12 +12,12 @@ use borrow.Author.Tests.{eq-eqb, eqb-true, ne-eqb}
 use Rattle.text_rules.specs.Bytes.{ascii}
 use Rattle.text_rules.specs.BytesLaws.{or-cases}
 use Rattle.text_rules.specs.Classes.{ampersand, comma, space}
+use Rattle.text_rules.specs.ScanLaws.{split}
 use Rattle.text_rules.specs.Search.{endsIn, part, run, startsWith}
 use Rattle.text_rules.specs.WhiteSpace.{textEnd, trimmed, whiteEnd}
 use Rattle.source_rules.specs.Parameters.{counted, isClosing, isOpening, one, paramsOf, partsFrom, squeezed, takesSelf}
 use Rattle.source_rules.specs.WalkSteps.{parts-step}
 use Rattle.measures.specs.Walks.{head}
-use Rattle.measures.proofs.Places.{split}
 
 -- a bracket is no comma, and an opening one does not close
 opening-only : (b : ℕ) → isOpening b ≡ true → (eqb b comma ≡ false) × (isClosing b ≡ false)

@@ -5,18 +5,14 @@ use mathlib.Core.Path.{_≡_, refl, ap, _∙_}
 use mathlib.Core.Logic.{_≢_, inl, inr}
 use mathlib.Core.Bool.{true, false, _&&_, or-false}
 use mathlib.Core.List.{List, [], _∷_}
-use native.Mathlib.Numerals.{add-one}
 use native.Mathlib.Omega.{arith}
 use lib.Dec.{eqb}
 use lib.ListN.{drop, drop-of-length-le, getD, length}
-use lib.Seq.{drop-cons}
 use borrow.Author.Tests.{eq-eqb, ne-eqb}
 use Rattle.text_rules.specs.Bytes.{among, same}
 use Rattle.text_rules.specs.BytesLaws.{same-true, whether}
+use Rattle.text_rules.specs.ScanLaws.{split}
 use Rattle.text_rules.specs.Search.{endsIn, startsWith}
-
-split : (s : List ℕ) (i : ℕ) → i < length s → drop i s ≡ getD s i 0 ∷ drop (i + 1) s
-split s i h = rw (add-one, drop-cons s i 0)
 
 -- the last byte
 pub ends-last : (x : ℕ) (s : List ℕ) → 1 ≤ length s → endsIn x s ≡ eqb (getD s (length s - 1) 0) x

@@ -1,0 +1,4 @@
+-- The laws that the proofs cite.
+mod Bodies
+mod Rules
+mod Whole

@@ -1,0 +1,24 @@
+-- What the functions of this crate ensure, in the words of the rules.
+use mathlib.Core.Path.{_≡_}
+use mathlib.Core.List.{List, _∷_, _++_}
+use Prim.Native.Nat.{ℕ, _+_, _-_, _≤_}
+use lib.ListN.{length, getD, take, drop}
+use Rattle.answers.specs.declared.Answer.{Answer}
+use Rattle.source_rules.specs.Blank.{blankFrom}
+use Rattle.source_rules.specs.BlankCall.{blankCall}
+
+-- from a place `at` of a text, n bytes on
+pub record Steps (text : List ℕ) (at n next : ℕ) : Type 0 where
+  pub place : next ≡ at + n
+  pub inside : next ≤ length text
+
+-- the output as it will be when the rest of the text is blanked: the bytes before `at` are written, a token goes on to `end`, and what stands beyond the text remains
+abbrev pub finished : (text output : List ℕ) (at end : ℕ) → List ℕ
+finished text output at end = take at output ++ (blankFrom (end - at) (getD (0 ∷ text) at 0) (drop at text) ++ drop (length text) output)
+
+-- the call blank: its answer, and what it leaves in the output
+pub record Answered (text output : List ℕ) (r : Answer) (left : List ℕ) : Type 0 where
+  pub number-is : r .number ≡ blankCall text output .answer .number
+  pub written-is : r .written ≡ blankCall text output .answer .written
+  pub functions-is : r .functions ≡ blankCall text output .answer .functions
+  pub output-is : left ≡ blankCall text output .output

@@ -1,0 +1,2 @@
+-- The law that the writers cite.
+mod Parts
