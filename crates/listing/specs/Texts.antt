@@ -1,7 +1,7 @@
--- Parts of the listings that more than one line has, by what they are made of, and their lengths.
-use Prim.Native.Nat.{ℕ, _+_, _-_}
+-- Parts of the listings by what they are made of, and their lengths in plain numbers: with these in a `requires`, that each part fits is arithmetic.
+use Prim.Native.Nat.{ℕ, _+_, _-_, max}
 use mathlib.Core.Path.{_≡_, refl, ap, _∙_}
-use mathlib.Core.List.{List, [], _∷_, _++_}
+use mathlib.Core.List.{List, [], _∷_}
 use native.Mathlib.Omega.{arith}
 use lib.ListN.{length, replicate, length-append, length-map, length-replicate}
 use Rattle.text_rules.specs.Bytes.{ascii, joined}
@@ -20,19 +20,26 @@ pub location-is : (f : Fun) → location f ≡ located (f .path) (f .line) (f .n
 unfolding location
 location-is f = refl
 
-pub located-length : (path : List ℕ) (line : ℕ) (name : List ℕ) → length (located path line name) ≡ length path + 1 + length (decimal line) + 1 + length name
+abbrev pub locatedLength : List ℕ → ℕ → List ℕ → ℕ
+locatedLength path line name = length path + 1 + length (decimal line) + 1 + length name
+
+pub located-length : (path : List ℕ) (line : ℕ) (name : List ℕ) → length (located path line name) ≡ locatedLength path line name
 located-length path line name = joined-length (path ∷ ascii ":" ∷ decimal line ∷ ascii " " ∷ name ∷ []) ∙ (omega arith)
 
 -- how many regressions there are
 abbrev pub counted : ℕ → List ℕ
 counted n = joined (ascii "complexity: " ∷ decimal n ∷ ascii " regressions\n" ∷ [])
 
-pub counted-length : (n : ℕ) → length (counted n) ≡ 25 + length (decimal n)
+abbrev pub countedLength : ℕ → ℕ
+countedLength n = 25 + length (decimal n)
+
+pub counted-length : (n : ℕ) → length (counted n) ≡ countedLength n
 counted-length n = joined-length (ascii "complexity: " ∷ decimal n ∷ ascii " regressions\n" ∷ []) ∙ (omega arith)
 
-pub justified-length : (width : ℕ) (text : List ℕ) → length (justified width text) ≡ width - length text + length text
+pub justified-length : (width : ℕ) (text : List ℕ) → length (justified width text) ≡ max width (length text)
 unfolding justified
-justified-length width text = length-append (replicate (width - length text) space) text ∙ ap (λ n. n + length text) (length-replicate (width - length text) space)
+justified-length width text =
+    length-append (replicate (width - length text) space) text ∙ ap (λ n. n + length text) (length-replicate (width - length text) space) ∙ (omega arith)
 
 pub spaced-length : (key : List ℕ) → length (spaced key) ≡ length key
 unfolding spaced

@@ -1,7 +1,7 @@
 // Texts and numbers written straight into the output. Each writer puts its own bytes from `at` on, changes no other byte and returns the place behind.
 // Each length is known before anything is written, so a caller can refuse an output that is too short and leave it as it was.
 ghost use mathlib.Core.Path.{_≡_};
-ghost use Prim.Native.Nat.{_+_, _-_, _≤_};
+ghost use Prim.Native.Nat.{_+_, _-_, _≤_, max};
 ghost use lib.Dec.{eqb};
 ghost use lib.ListN.{length, replicate};
 ghost use Rattle.text_rules.specs.Bytes.{if_then_else_, putAt};
@@ -9,7 +9,7 @@ ghost use Rattle.text_rules.specs.Classes.{space, tab};
 ghost use Rattle.text_rules.specs.Decimal.{decimal};
 ghost use Rattle.gate_rules.specs.Check.{spaced};
 ghost use Rattle.gate_rules.specs.Report.{justified};
-ghost use Rattle.listing.specs.Texts.{counted, located};
+ghost use Rattle.listing.specs.Texts.{counted, countedLength, located, locatedLength};
 
 // The bytes of a text.
 pub fn put_text(out: &mut [u8], at: usize, text: &[u8]) -> usize
@@ -103,7 +103,7 @@ fn padding(width: usize, n: u64) -> usize
 
 // The bytes of a right-justified number: the width, or all its digits where they are more.
 pub fn justified_length(width: usize, n: u64) -> usize
-    ensures { λ r. ⌜ r ≡ length (justified width (decimal n)) ⌝ }
+    ensures { λ r. ⌜ r ≡ max width (length (decimal n)) ⌝ }
 {
     let count = digits(n);
     if count < width {
@@ -114,8 +114,8 @@ pub fn justified_length(width: usize, n: u64) -> usize
 
 // A number, right-justified to at least `width` columns.
 pub fn put_justified(out: &mut [u8], at: usize, width: usize, n: u64) -> usize
-    requires { ⌜ at + length (justified width (decimal n)) ≤ length (now out) ⌝ }
-    ensures { λ r. ⌜ (r ≡ at + length (justified width (decimal n))) × (now (out .exit) ≡ putAt at (justified width (decimal n)) (now (out .entry))) ⌝ }
+    requires { ⌜ at + max width (length (decimal n)) ≤ length (now out) ⌝ }
+    ensures { λ r. ⌜ (r ≡ at + max width (length (decimal n))) × (now (out .exit) ≡ putAt at (justified width (decimal n)) (now (out .entry))) ⌝ }
 {
     let first = put_spaces(out, at, padding(width, n));
     put_number(out, first, n)
@@ -124,15 +124,15 @@ pub fn put_justified(out: &mut [u8], at: usize, width: usize, n: u64) -> usize
 // The bytes of path:line name.
 pub fn location_length(path: &[u8], line: u32, name: &[u8]) -> usize
     requires { ⌜ length (now path) + length (now name) ≤ 4294967296 ⌝ }
-    ensures { λ r. ⌜ r ≡ length (located (now (path .entry)) line (now (name .entry))) ⌝ }
+    ensures { λ r. ⌜ r ≡ locatedLength (now (path .entry)) line (now (name .entry)) ⌝ }
 {
     path.len() + 1 + digits(line as u64) + 1 + name.len()
 }
 
 // path:line name
 pub fn put_location(out: &mut [u8], at: usize, path: &[u8], line: u32, name: &[u8]) -> usize
-    requires { ⌜ at + length (located (now path) line (now name)) ≤ length (now out) ⌝ }
-    ensures { λ r. ⌜ (r ≡ at + length (located (now (path .entry)) line (now (name .entry)))) × (now (out .exit) ≡ putAt at (located (now (path .entry)) line (now (name .entry))) (now (out .entry))) ⌝ }
+    requires { ⌜ at + locatedLength (now path) line (now name) ≤ length (now out) ⌝ }
+    ensures { λ r. ⌜ (r ≡ at + locatedLength (now (path .entry)) line (now (name .entry))) × (now (out .exit) ≡ putAt at (located (now (path .entry)) line (now (name .entry))) (now (out .entry))) ⌝ }
 {
     let colon = put_text(out, at, path);
     let number = put_text(out, colon, b":");
@@ -143,8 +143,8 @@ pub fn put_location(out: &mut [u8], at: usize, path: &[u8], line: u32, name: &[u
 
 // The first line of a verdict with regressions.
 pub fn put_counted(out: &mut [u8], at: usize, n: u64) -> usize
-    requires { ⌜ at + length (counted n) ≤ length (now out) ⌝ }
-    ensures { λ r. ⌜ (r ≡ at + length (counted n)) × (now (out .exit) ≡ putAt at (counted n) (now (out .entry))) ⌝ }
+    requires { ⌜ at + countedLength n ≤ length (now out) ⌝ }
+    ensures { λ r. ⌜ (r ≡ at + countedLength n) × (now (out .exit) ≡ putAt at (counted n) (now (out .entry))) ⌝ }
 {
     let number = put_text(out, at, b"complexity: ");
     let words = put_number(out, number, n);

@@ -46,7 +46,8 @@ pub joined-length : (ts : List (List ℕ)) → length (joined ts) ≡ total leng
 joined-length [] = omega arith
 joined-length (t ∷ ts) = length-append t (joined ts) ∙ ap (λ n. length t + n) (joined-length ts)
 
--- parts put one behind the other, from `at` to `next`: where they fit, they are put at once. Built from what each writer ensures, `puts-then first (puts-then second puts-none)`
+-- Parts put one behind the other, from `at` to `next`: where they fit, they are put at once. Built from what the writer of each part ensures,
+-- `puts-then first (puts-then second puts-none)`, and read by `puts-all`.
 pub record Puts (at : ℕ) (s : List ℕ) (parts : List (List ℕ)) (next : ℕ) (t : List ℕ) : Type 0 where
   pub whole : at + length (joined parts) ≤ length s → (next ≡ at + length (joined parts)) × (t ≡ putAt at (joined parts) s)
 
@@ -62,3 +63,13 @@ puts-then {at} {place} {next} {xs} {s} {t} {u} {parts} e more =
           let rest = more .whole (omega (arith, e .0)) in
           (omega (arith, e .0, rest .0), put-then at place xs (joined parts) s t u h (e .0) (e .1) (rest .1));
     }
+
+-- the same where a writer tells its part's length in another form
+pub puts-sized : {at n place next : ℕ} {xs s t u : List ℕ} {parts : List (List ℕ)} → length xs ≡ n → (place ≡ at + n) × (t ≡ putAt at xs s) → Puts place t parts next u
+    → Puts at s (xs ∷ parts) next u
+puts-sized {at} size e more = puts-then (e .0 ∙ ap (λ k. at + k) (sym size), e .1) more
+
+-- all the parts, with their length in the form that the writer of them tells
+pub puts-all : {at n next : ℕ} {s t : List ℕ} {parts : List (List ℕ)} → Puts at s parts next t → length (joined parts) ≡ n → at + n ≤ length s
+    → (next ≡ at + n) × (t ≡ putAt at (joined parts) s)
+puts-all {at} {n} {next} {s} {t} {parts} p size h = let all = p .whole (omega (arith, size)) in (all .0 ∙ ap (λ k. at + k) size, all .1)

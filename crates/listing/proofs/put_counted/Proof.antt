@@ -1,20 +1,14 @@
--- `listing::put_counted` meets its contract: each part is put behind the one before, and all of them fit.
+-- `listing::put_counted` meets its contract: each part is put behind the one before.
 use mathlib.Core.List.{[], _∷_}
 use native.Mathlib.Omega.{arith}
 use denote.Ref.{now}
 use borrow.Author.Needs.{needs}
 use Rattle.text_rules.specs.Bytes.{ascii}
 use Rattle.text_rules.specs.Decimal.{decimal}
-use Rattle.text_rules.specs.WriterLaws.{Puts, puts-none, puts-then}
+use Rattle.text_rules.specs.WriterLaws.{Puts, puts-all, puts-none, puts-then}
 use Rattle.listing.specs.Texts.{counted-length}
 use Rattle.listing.proofs.put_counted.Statement.{statement}
 use Rattle.listing.proofs.put_counted.Tie as tie
-
-put-number-requires : tie.Need-put-number-requires
-put-number-requires c κs = omega (arith, counted-length (c .before .before .before .before .before .before .before .args .n))
-
-put-text-requires-2 : tie.Need-put-text-requires-2
-put-text-requires-2 c κs = omega (arith, counted-length (c .before .before .before .before .before .before .before .before .before .before .before .before .args .n))
 
 returns : tie.Need-returns
 returns c =
@@ -24,9 +18,9 @@ returns c =
     let a = first .before .before .before .before .args in
     let parts : Puts (a .at) (now (a .out)) (ascii "complexity: " ∷ decimal (a .n) ∷ ascii " regressions\n" ∷ []) _ _ =
     puts-then (first .put-text .ensures) (puts-then (second .put-number .ensures) (puts-then (third .put-text2 .ensures) puts-none)) in
-    parts .whole (omega arith)
+    puts-all parts (counted-length (a .n)) (omega arith)
 
 pub put-counted-spec : {M : Type 1} → statement M
 put-counted-spec =
     tie.close
-    (tie.spec (λ c. search needs) (λ c κs. search needs) put-number-requires (λ c. search needs) put-text-requires-2 (λ c. search needs) returns)
+    (tie.spec (λ c. search needs) (λ c κs. search needs) (λ c κs. search needs) (λ c. search needs) (λ c κs. search needs) (λ c. search needs) returns)

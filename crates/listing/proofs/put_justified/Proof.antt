@@ -1,5 +1,5 @@
 -- `listing::put_justified` meets its contract: the spaces and behind them the digits.
-use Prim.Native.Nat.{_+_, _-_}
+use Prim.Native.Nat.{_+_, _-_, _≤_}
 use mathlib.Core.Path.{_≡_, ap, _∙_}
 use native.Mathlib.Omega.{arith}
 use lib.ListN.{length, replicate, length-replicate}
@@ -14,16 +14,6 @@ use Rattle.listing.specs.Texts.{justified-length}
 use Rattle.listing.proofs.put_justified.Statement.{statement}
 use Rattle.listing.proofs.put_justified.Tie as tie
 
-put-spaces-requires : tie.Need-put-spaces-requires
-put-spaces-requires c κs =
-    let a = c .before .before .before .args in
-    omega (arith, justified-length (a .width) (decimal (a .n)))
-
-put-number-requires : tie.Need-put-number-requires
-put-number-requires c κs =
-    let a = c .before .before .before .before .before .before .before .args in
-    omega (arith, justified-length (a .width) (decimal (a .n)))
-
 returns : tie.Need-returns
 unfolding justified
 returns c =
@@ -33,11 +23,11 @@ returns c =
     let a = pad .before .before .before .args in
     let digits = decimal (a .n) in
     let count = a .width - length digits in
-    let size = justified-length (a .width) digits in
     let place : spaces .put-spaces .result ≡ a .at + length (replicate count space) = omega (arith, length-replicate count space) in
     let put = spaces .put-spaces .ensures .1 ∙ ap (λ n. putAt (a .at) (replicate n space) (now (a .out))) (pad .padding .ensures) in
-    (omega (arith, size), put-then (a .at) _ (replicate count space) digits (now (a .out)) _ _ (omega arith) place put (number .put-number .ensures .1))
+    let room : a .at + length (justified (a .width) digits) ≤ length (now (a .out)) = omega (arith, justified-length (a .width) digits) in
+    (omega arith, put-then (a .at) _ (replicate count space) digits (now (a .out)) _ _ room place put (number .put-number .ensures .1))
 
 pub put-justified-spec : {M : Type 1} → statement M
 put-justified-spec =
-    tie.close (tie.spec (λ c κs. search needs) put-spaces-requires put-number-requires (λ c. search needs) returns)
+    tie.close (tie.spec (λ c κs. search needs) (λ c κs. search needs) (λ c κs. search needs) (λ c. search needs) returns)

@@ -1,49 +1,14 @@
--- `listing::put_location` meets its contract: each part is put behind the one before, and all of them fit.
+-- `listing::put_location` meets its contract: each part is put behind the one before.
 use mathlib.Core.List.{[], _∷_}
 use native.Mathlib.Omega.{arith}
 use denote.Ref.{now}
 use borrow.Author.Needs.{needs}
 use Rattle.text_rules.specs.Bytes.{ascii}
 use Rattle.text_rules.specs.Decimal.{decimal}
-use Rattle.text_rules.specs.WriterLaws.{Puts, puts-none, puts-then}
+use Rattle.text_rules.specs.WriterLaws.{Puts, puts-all, puts-none, puts-then}
 use Rattle.listing.specs.Texts.{located-length}
 use Rattle.listing.proofs.put_location.Statement.{statement}
 use Rattle.listing.proofs.put_location.Tie as tie
-
-put-text-requires : tie.Need-put-text-requires
-put-text-requires c κs =
-    let a = c .before .before .before .before .args in
-    omega (arith, located-length (now (a .path)) (a .line) (now (a .name)))
-
-put-text-requires-2 : tie.Need-put-text-requires-2
-put-text-requires-2 c κs =
-    let first = c .before .before .before .before in
-    let a = first .before .before .before .before .before .args in
-    omega (arith, located-length (now (a .path)) (a .line) (now (a .name)))
-
-put-number-requires : tie.Need-put-number-requires
-put-number-requires c κs =
-    let second = c .before .before .before in
-    let first = second .before .before .before .before .before in
-    let a = first .before .before .before .before .before .args in
-    omega (arith, located-length (now (a .path)) (a .line) (now (a .name)))
-
-put-text-requires-3 : tie.Need-put-text-requires-3
-put-text-requires-3 c κs =
-    let third = c .before .before .before .before in
-    let second = third .before .before .before .before in
-    let first = second .before .before .before .before .before in
-    let a = first .before .before .before .before .before .args in
-    omega (arith, located-length (now (a .path)) (a .line) (now (a .name)))
-
-put-text-requires-4 : tie.Need-put-text-requires-4
-put-text-requires-4 c κs =
-    let fourth = c .before .before .before in
-    let third = fourth .before .before .before .before .before in
-    let second = third .before .before .before .before in
-    let first = second .before .before .before .before .before in
-    let a = first .before .before .before .before .before .args in
-    omega (arith, located-length (now (a .path)) (a .line) (now (a .name)))
 
 returns : tie.Need-returns
 returns c =
@@ -56,10 +21,10 @@ returns c =
     let parts : Puts (a .at) (now (a .out)) (now (a .path) ∷ ascii ":" ∷ decimal (a .line) ∷ ascii " " ∷ now (a .name) ∷ []) _ _ =
     puts-then (first .put-text .ensures) (puts-then (second .put-text2 .ensures) (puts-then (third .put-number .ensures)
     (puts-then (fourth .put-text3 .ensures) (puts-then (fifth .put-text4 .ensures) puts-none)))) in
-    parts .whole (omega arith)
+    puts-all parts (located-length (now (a .path)) (a .line) (now (a .name))) (omega arith)
 
 pub put-location-spec : {M : Type 1} → statement M
 put-location-spec =
     tie.close
-    (tie.spec put-text-requires (λ c. search needs) put-text-requires-2 put-number-requires (λ c. search needs) put-text-requires-3 put-text-requires-4
-    (λ c. search needs) returns)
+    (tie.spec (λ c κs. search needs) (λ c. search needs) (λ c κs. search needs) (λ c κs. search needs) (λ c. search needs) (λ c κs. search needs)
+    (λ c κs. search needs) (λ c. search needs) returns)
