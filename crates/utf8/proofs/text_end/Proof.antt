@@ -1,5 +1,5 @@
 -- Each turn passes a byte that is not of white space, or one character that is, so the walk over the rest ends where the walk over the whole does.
-use Prim.Native.Nat.{_+_, _-_, _≤_}
+use Prim.Native.Nat.{_-_, _≤_}
 use mathlib.Core.Path.{_∙_, _≡_, refl, sym}
 use native.Mathlib.Omega.{arith}
 use lib.ListN.{drop, length}

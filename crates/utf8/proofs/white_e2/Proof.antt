@@ -1,4 +1,4 @@
-use borrow.Author.Tests.{eq-eqb, ne-eqb}
+use borrow.Author.Tests.{ne-eqb}
 use Rattle.text_rules.specs.Search.{opens}
 use Rattle.text_rules.specs.Utf8.{within}
 use Rattle.text_rules.specs.WhiteSpace.{whiteLength}

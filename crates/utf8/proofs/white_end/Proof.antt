@@ -1,5 +1,5 @@
 -- Each turn passes one character of white space, so the walk over the rest ends where the walk over the whole does.
-use Prim.Native.Nat.{_+_, _-_, _≤_}
+use Prim.Native.Nat.{_-_, _≤_}
 use mathlib.Core.Path.{_∙_, _≡_, refl, sym}
 use native.Mathlib.Omega.{arith}
 use lib.ListN.{drop, length}
