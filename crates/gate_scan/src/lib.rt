@@ -1,13 +1,18 @@
 // The scan of a tree: its texts blanked into work, its functions written as records.
 ghost use mathlib.Core.Path.{_≡_};
 ghost use mathlib.Core.Bool.{true};
-ghost use Prim.Native.Nat.{_/_, _≤_, min};
+ghost use mathlib.Core.List.{map};
+ghost use Prim.Native.Nat.{_+_, _/_, _<_, _≤_, min};
 ghost use lib.ListN.{length};
-ghost use Rattle.gate_rules.specs.RecordForms.{putRecord};
-ghost use Rattle.gate_rules.specs.Records.{blankInto, recordBytes};
+ghost use Rattle.source_rules.specs.TextScan.{functions};
+ghost use Rattle.gate_rules.specs.RecordForms.{putRecord, putRecords};
+ghost use Rattle.gate_rules.specs.Records.{blankInto, recordBytes, records};
 ghost use Rattle.gate_rules.specs.Tree.{isLaidOut, sources};
 ghost use Rattle.records.specs.Record.{numbers};
+ghost use Rattle.gate_scan.specs.Told.{Small, TextsIn, recordsFor, told};
 use records::Record;
+use source::Found;
+use source::Step;
 
 // The most functions of a tree.
 const MAX_FUNCTIONS: usize = 8192;
@@ -47,4 +52,67 @@ fn put_numbered(lent: &mut [u8], number: usize, r: Record)
     if number < room(lent.len()) {
         records::put_record(lent, number * records::RECORD_WIDTH, r);
     }
+}
+
+// The record of a function that was found in the text of a file.
+fn record_of(number: usize, place: usize, f: Found) -> Record
+    requires { ⌜ Small number place f ⌝ }
+    ensures { λ r. ⌜ numbers r ≡ told number place f ⌝ }
+{
+    Record {
+        file: number as u32,
+        start: (place + f.name_at) as u32,
+        len: f.name_len as u32,
+        line: f.line as u32,
+        lines: f.lines as u32,
+        cyclomatic: f.cyclomatic as u32,
+        nesting: f.nesting as u32,
+        params: f.params as u32,
+    }
+}
+
+// The records of a blanked text's functions, the first with the number `done`; answers the number behind the last.
+fn scan_text(s: &[u8], number: usize, place: usize, lent: &mut [u8], done: usize) -> usize
+    requires { ⌜ (number < 1024) × (place + length (now s) ≤ 16777216) × (done ≤ 17179869184) ⌝ }
+    ensures { λ r. ⌜
+      (r ≡ done + length (functions (now (s .entry))))
+      × (now (lent .exit) ≡ putRecords done (recordsFor number place (functions (now (s .entry)))) (now (lent .entry)))
+      ⌝ }
+{
+    let mut c = source::start();
+    let mut n = done;
+    loop {
+        let step = c.next(s);
+        match step {
+            Step::Function(f, d) => {
+                put_numbered(lent, n, record_of(number, place, f));
+                n += 1;
+                c = d;
+            }
+            Step::End => {
+                return n;
+            }
+        }
+    }
+}
+
+// The records of the texts that stand blanked in work, file by file; answers how many functions there are.
+fn scan_texts(tree: &[u8], work: &[u8], lent: &mut [u8]) -> usize
+    requires { ⌜ (isLaidOut (now tree) ≡ true) × (length (now tree) ≤ 16777216) × TextsIn (now tree) (now work) ⌝ }
+    ensures { λ r. ⌜
+      (r ≡ length (records (now (tree .entry))))
+      × (now (lent .exit) ≡ putRecords 0 (map recordBytes (records (now (tree .entry)))) (now (lent .entry)))
+      ⌝ }
+{
+    let n = tree::file_count(tree);
+    let mut k = 0;
+    let mut done = 0;
+    while k < n {
+        let text = tree::text_span(tree, k);
+        let from = text.from;
+        let to = text.to;
+        done = scan_text(&work[from..to], k, from, lent, done);
+        k += 1;
+    }
+    done
 }
