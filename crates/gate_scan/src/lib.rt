@@ -7,9 +7,14 @@ ghost use lib.ListN.{length};
 ghost use Rattle.source_rules.specs.TextScan.{functions};
 ghost use Rattle.gate_rules.specs.RecordForms.{putRecord, putRecords};
 ghost use Rattle.gate_rules.specs.Records.{blankInto, recordBytes, records};
-ghost use Rattle.gate_rules.specs.Tree.{isLaidOut, sources};
+ghost use Rattle.gate_rules.specs.Calls.{scanCall};
+ghost use Rattle.gate_rules.specs.Gate.{gate};
+ghost use Rattle.gate_rules.specs.Scan.{functionsOf};
+ghost use Rattle.gate_rules.specs.Tree.{isLaidOut, sources, treeRefusal};
 ghost use Rattle.records.specs.Record.{numbers};
+ghost use Rattle.gate_scan.specs.Scans.{Scans, blankedWork, filled};
 ghost use Rattle.gate_scan.specs.Told.{Small, TextsIn, recordsFor, told};
+use answers::Answer;
 use records::Record;
 use source::Found;
 use source::Step;
@@ -75,9 +80,9 @@ fn record_of(number: usize, place: usize, f: Found) -> Record
 fn scan_text(s: &[u8], number: usize, place: usize, lent: &mut [u8], done: usize) -> usize
     requires { ⌜ (number < 1024) × (place + length (now s) ≤ 16777216) × (done ≤ 17179869184) ⌝ }
     ensures { λ r. ⌜
-      (r ≡ done + length (functions (now (s .entry))))
-      × (now (lent .exit) ≡ putRecords done (recordsFor number place (functions (now (s .entry)))) (now (lent .entry)))
-      ⌝ }
+        (r ≡ done + length (functions (now (s .entry))))
+        × (now (lent .exit) ≡ putRecords done (recordsFor number place (functions (now (s .entry)))) (now (lent .entry)))
+        ⌝ }
 {
     let mut c = source::start();
     let mut n = done;
@@ -100,19 +105,55 @@ fn scan_text(s: &[u8], number: usize, place: usize, lent: &mut [u8], done: usize
 fn scan_texts(tree: &[u8], work: &[u8], lent: &mut [u8]) -> usize
     requires { ⌜ (isLaidOut (now tree) ≡ true) × (length (now tree) ≤ 16777216) × TextsIn (now tree) (now work) ⌝ }
     ensures { λ r. ⌜
-      (r ≡ length (records (now (tree .entry))))
-      × (now (lent .exit) ≡ putRecords 0 (map recordBytes (records (now (tree .entry)))) (now (lent .entry)))
-      ⌝ }
+        (r ≡ length (records (now (tree .entry))))
+        × (now (lent .exit) ≡ putRecords 0 (map recordBytes (records (now (tree .entry)))) (now (lent .entry)))
+        ⌝ }
 {
     let n = tree::file_count(tree);
-    let mut k = 0;
+    let mut file = 0;
     let mut done = 0;
-    while k < n {
-        let text = tree::text_span(tree, k);
+    while file < n {
+        let text = tree::text_span(tree, file);
         let from = text.from;
         let to = text.to;
-        done = scan_text(&work[from..to], k, from, lent, done);
-        k += 1;
+        done = scan_text(&work[from..to], file, from, lent, done);
+        file += 1;
     }
     done
+}
+
+// The scan itself, of a tree that is not refused: work blanked, as many first records as there is room for. Answers the count of all functions.
+pub fn scanned(tree: &[u8], work: &mut [u8], lent: &mut [u8]) -> usize
+    requires { ⌜ (treeRefusal (now tree) ≡ 0) × (length (now tree) ≤ length (now work)) ⌝ }
+    ensures { λ r. ⌜
+        (r ≡ length (functionsOf gate (now (tree .entry))))
+        × (r ≤ 16777216)
+        × (now (work .exit) ≡ blankedWork (now (tree .entry)) (now (work .entry)) (now (lent .entry)))
+        × (now (lent .exit) ≡ filled (now (tree .entry)) (now (work .entry)) (now (lent .entry)))
+        ⌝ }
+{
+    blank_texts(tree, work);
+    scan_texts(tree, work, lent)
+}
+
+// The call scan: the refusals 1 to 5 and 8; records in scan order.
+pub fn scan(tree: &[u8], work: &mut [u8], lent: &mut [u8]) -> Answer
+    ensures { λ r. ⌜ Scans r (scanCall gate (now (tree .entry)) (now (work .entry)) (now (lent .entry))) (now (work .exit)) (now (lent .exit)) ⌝ }
+{
+    let refused = tree::tree_refusal(tree);
+    if refused != 0 {
+        return answers::refusal(refused);
+    }
+    if work.len() < tree.len() {
+        return answers::refusal(5);
+    }
+    let n = scanned(tree, work, lent);
+    if room(lent.len()) < n {
+        return answers::refusal(8);
+    }
+    Answer {
+        number: 0,
+        written: 0,
+        functions: n as u32,
+    }
 }

@@ -88,12 +88,13 @@ loop-again c =
     let lent = l .loop .lent in
     let number = b .args .number in
     let place = b .args .place in
-    let e = pn .put-numbered .ensures ∙ ap (λ r. putRecord n (recordBytes r) lent) (ro .record-of .ensures) in
-    (y .ready,
+    let e = pn .put-numbered .ensures ∙ ap (λ r. putRecord n (recordBytes r) lent) (ro .record-of .ensures) in (
+      y .ready,
       ap length e ∙ put-record-length n (recordBytes (told number place f)) lent (told-wide number place f) ∙ l .loop .inv .1,
       omega (arith, l .loop .inv .2, count-next s (l .loop .c) f d y number place),
       omega (arith, l .loop .inv .3, y .further),
-      ap (putRecords (n + 1) (recordsFor number place (remaining s d))) e ∙ sym (records-next s (l .loop .c) f d y number place n lent) ∙ l .loop .inv .4)
+      ap (putRecords (n + 1) (recordsFor number place (remaining s d))) e ∙ sym (records-next s (l .loop .c) f d y number place n lent) ∙ l .loop .inv .4,
+    )
 
 same-length : tie.Need-same-length Inv-loop μ-loop
 same-length c = c .before .before .before .loop .inv .1

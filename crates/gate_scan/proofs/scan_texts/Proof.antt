@@ -81,7 +81,7 @@ scan-text-requires c κs =
     let s = fc .before .before .before .before in
     let tree = now (s .args .tree) in
     let t = ts .text-span .ensures in
-    let f = file-at tree (l .loop .k) (s .pre .0) (omega (arith, fc .file-count .ensures)) in
+    let f = file-at tree (l .loop .file) (s .pre .0) (omega (arith, fc .file-count .ensures)) in
     let few-files = f .number-small in
     (omega arith, omega (arith, part-size (ts .text-span .result .from) (ts .text-span .result .to) (now (s .args .work)) (t .2), t .3, s .pre .1), omega (arith, l .loop .inv .2))
 
@@ -95,7 +95,7 @@ loop-again c =
     let tree = now (s .args .tree) in
     let work = now (s .args .work) in
     let n = fc .file-count .result in
-    let k = l .loop .k in
+    let k = l .loop .file in
     let done = l .loop .done in
     let lent = l .loop .lent in
     let count = fc .file-count .ensures in
@@ -104,12 +104,13 @@ loop-again c =
     let text = text-there tree work k _ _ (s .pre .2) (omega arith) (t .0) (t .1) in
     let here = functions (blanked (textIn tree (entryAt k))) in
     let size : sc .scan-text .result ≡ done + length here = sc .scan-text .ensures .0 ∙ ap (λ x. done + length (functions x)) text in
-    let put = sc .scan-text .ensures .1 ∙ ap₂ (λ at x. putRecords done (recordsFor k at (functions x)) lent) (t .0) text in
-    (omega arith,
+    let put = sc .scan-text .ensures .1 ∙ ap₂ (λ at x. putRecords done (recordsFor k at (functions x)) lent) (t .0) text in (
+      omega arith,
       ap length put ∙ records-kept k (textOffset tree (entryAt k)) here done lent ∙ l .loop .inv .1,
       omega (arith, l .loop .inv .2, few tree k, s .pre .1),
       omega (arith, l .loop .inv .3, left-count tree n k h),
-      ap₂ (λ m buffer. putRecords m (map recordBytes (rest tree n (k + 1))) buffer) size put ∙ sym (left-put tree n k h done lent) ∙ l .loop .inv .4)
+      ap₂ (λ m buffer. putRecords m (map recordBytes (rest tree n (k + 1))) buffer) size put ∙ sym (left-put tree n k h done lent) ∙ l .loop .inv .4,
+    )
 
 returns : tie.Need-returns Inv-loop μ-loop
 unfolding putRecords
@@ -117,8 +118,8 @@ returns c =
     let l = c .before in
     let fc = l .before in
     let tree = now (fc .before .before .before .before .args .tree) in
-    let none = left-end tree (fc .file-count .result) (l .loop .k) (omega arith) in
-    let zero : length (rest tree (fc .file-count .result) (l .loop .k)) ≡ 0 = ap length none in
+    let none = left-end tree (fc .file-count .result) (l .loop .file) (omega arith) in
+    let zero : length (rest tree (fc .file-count .result) (l .loop .file)) ≡ 0 = ap length none in
     (omega (arith, l .loop .inv .3), sym (ap (λ rs. putRecords (l .loop .done) (map recordBytes rs) (l .loop .lent)) none) ∙ l .loop .inv .4)
 
 pub scan-texts-spec : {M : Type 1} → statement M
