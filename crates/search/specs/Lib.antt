@@ -1,0 +1,2 @@
+-- A place as the code tells it.
+pub mod Place

@@ -1,0 +1,197 @@
+// Searches in a blanked text: a byte, a bracket's partner, the brace that opens a body, the ends of white space and of a word, the word `fn`,
+// and the mark of test code. Each goes over the bytes once, from the place where it begins.
+ghost use mathlib.Core.Path.{_≡_};
+ghost use mathlib.Core.Logic.{_≢_};
+ghost use mathlib.Core.List.{_∷_};
+ghost use Prim.Native.Nat.{_+_, _≤_, _<_};
+ghost use lib.ListN.{length, getD, drop};
+ghost use Rattle.text_rules.specs.Bytes.{ascii};
+ghost use Rattle.text_rules.specs.Classes.{isSpace, isWord};
+ghost use Rattle.text_rules.specs.Search.{countAfter, find, run, startsWith};
+ghost use Rattle.source_rules.specs.Brackets.{partner};
+ghost use Rattle.source_rules.specs.Finding.{angleAfter, bodyAt, flat, isFn};
+ghost use Rattle.search.specs.Place.{placeOf};
+
+// A place in a text, if there is one.
+pub enum Place {
+    At(usize),
+    Nowhere,
+}
+
+// The first `x` from a place on.
+pub fn find(s: &[u8], x: u8, from: usize) -> Place
+    ensures { λ r. ⌜ placeOf r ≡ find x from (drop from (now (s .entry))) ⌝ }
+{
+    let mut at = from;
+    while at < s.len() {
+        if s[at] == x {
+            return Place::At(at);
+        }
+        at += 1;
+    }
+    Place::Nowhere
+}
+
+// The partner of an opening bracket that stands before `from`.
+pub fn matching_delim(s: &[u8], opening: u8, closing: u8, from: usize) -> Place
+    requires { ⌜ opening ≢ closing ⌝ }
+    ensures { λ r. ⌜ placeOf r ≡ partner opening closing 0 from (drop from (now (s .entry))) ⌝ }
+{
+    let mut at = from;
+    let mut depth: usize = 0;
+    while at < s.len() {
+        let b = s[at];
+        at += 1;
+        if b == opening {
+            depth += 1;
+        } else if b == closing {
+            if depth == 0 {
+                return Place::At(at - 1);
+            }
+            depth -= 1;
+        }
+    }
+    Place::Nowhere
+}
+
+// Angle depth and square depth are 0. Square depth may go negative, so what was opened and what was closed is counted apart.
+fn is_flat(angle: usize, opened: usize, closed: usize) -> bool
+    ensures { λ r. ⌜ r ≡ flat angle opened closed ⌝ }
+{
+    if angle == 0 { opened == closed } else { false }
+}
+
+// The angle depth behind a byte. A `>` lowers it only above 0: elsewhere it belongs to `->`.
+fn angle_after(b: u8, angle: usize) -> usize
+    requires { ⌜ angle < 18446744073709551615 ⌝ }
+    ensures { λ r. ⌜ (r ≡ angleAfter b angle) × (r ≤ angle + 1) ⌝ }
+{
+    if b == b'<' {
+        return angle + 1;
+    }
+    if b == b'>' {
+        if 0 < angle {
+            return angle - 1;
+        }
+        return 0;
+    }
+    angle
+}
+
+// How many bytes are `x`, behind the byte `b`.
+pub fn count_after(x: u8, b: u8, n: usize) -> usize
+    requires { ⌜ n < 18446744073709551615 ⌝ }
+    ensures { λ r. ⌜ (r ≡ countAfter x b n) × (r ≤ n + 1) ⌝ }
+{
+    if b == x { n + 1 } else { n }
+}
+
+// The brace that opens a body: the first one at angle and square depth 0, if no `;` stands there before it. A `;` inside, as in `[u8; 4]`,
+// ends nothing.
+pub fn body_open(s: &[u8], from: usize) -> Place
+    ensures { λ r. ⌜ placeOf r ≡ bodyAt 0 0 0 from (drop from (now (s .entry))) ⌝ }
+{
+    let mut angle: usize = 0;
+    let mut opened: usize = 0;
+    let mut closed: usize = 0;
+    let mut at = from;
+    while at < s.len() {
+        let b = s[at];
+        if is_flat(angle, opened, closed) {
+            if b == b'{' {
+                return Place::At(at);
+            }
+            if b == b';' {
+                return Place::Nowhere;
+            }
+        }
+        angle = angle_after(b, angle);
+        opened = count_after(b'[', b, opened);
+        closed = count_after(b']', b, closed);
+        at += 1;
+    }
+    Place::Nowhere
+}
+
+// The end of the white space that begins at a place.
+pub fn space_end(s: &[u8], from: usize) -> usize
+    requires { ⌜ from ≤ length (now s) ⌝ }
+    ensures { λ r. ⌜ (r ≡ from + run isSpace (drop from (now (s .entry)))) × (from ≤ r) × (r ≤ length (now (s .entry))) ⌝ }
+{
+    let mut at = from;
+    while at < s.len() {
+        if !classes::is_space(s[at]) {
+            return at;
+        }
+        at += 1;
+    }
+    at
+}
+
+// The end of the word that begins at a place.
+pub fn word_end(s: &[u8], from: usize) -> usize
+    requires { ⌜ from ≤ length (now s) ⌝ }
+    ensures { λ r. ⌜ (r ≡ from + run isWord (drop from (now (s .entry)))) × (from ≤ r) × (r ≤ length (now (s .entry))) ⌝ }
+{
+    let mut at = from;
+    while at < s.len() {
+        if !classes::is_word(s[at]) {
+            return at;
+        }
+        at += 1;
+    }
+    at
+}
+
+// Whether the given bytes stand at a place.
+fn begins(s: &[u8], from: usize, word: &[u8]) -> bool
+    ensures { λ r. ⌜ r ≡ startsWith (now (word .entry)) (drop from (now (s .entry))) ⌝ }
+{
+    let mut at = from;
+    let mut i = 0;
+    while i < word.len() {
+        if s.len() <= at {
+            return false;
+        }
+        if s[at] != word[i] {
+            return false;
+        }
+        at += 1;
+        i += 1;
+    }
+    true
+}
+
+// The byte at a place, 0 past the end.
+fn byte(s: &[u8], at: usize) -> u8
+    ensures { λ r. ⌜ r ≡ getD (now (s .entry)) at 0 ⌝ }
+{
+    if at < s.len() { s[at] } else { 0 }
+}
+
+// The byte before a place, 0 at the start.
+fn byte_before(s: &[u8], at: usize) -> u8
+    ensures { λ r. ⌜ r ≡ getD (0 ∷ now (s .entry)) at 0 ⌝ }
+{
+    if at == 0 { 0 } else { byte(s, at - 1) }
+}
+
+// Whether the word `fn` stands at a place: no letter, digit or `_` on either side.
+pub fn word_at(s: &[u8], at: usize) -> bool
+    ensures { λ r. ⌜ r ≡ isFn (getD (0 ∷ now (s .entry)) at 0) (drop at (now (s .entry))) ⌝ }
+{
+    if !begins(s, at, b"fn") {
+        return false;
+    }
+    if classes::is_word(byte_before(s, at)) {
+        return false;
+    }
+    !classes::is_word(byte(s, at + 2))
+}
+
+// Whether test code is marked at a place.
+pub fn test_mark(s: &[u8], at: usize) -> bool
+    ensures { λ r. ⌜ r ≡ startsWith (ascii "#[cfg(test)]") (drop at (now (s .entry))) ⌝ }
+{
+    begins(s, at, b"#[cfg(test)]")
+}

@@ -1,0 +1,17 @@
+-- `source::start` meets its contract: at the start nothing is open, and nothing is known of any place.
+use mathlib.Core.Path.{refl}
+use native.Mathlib.Omega.{arith}
+use Rattle.source_rules.specs.TextScan.{functions}
+use Rattle.source.specs.Cursors.{Barren, Spanless, remaining, remainingAt}
+use Rattle.source.proofs.start.Statement.{statement}
+use Rattle.source.proofs.start.Tie as tie
+
+returns : tie.Need-returns
+unfolding remaining remainingAt functions Spanless Barren
+returns c = λ s. (
+  record { inside = omega arith; line-least = omega arith; line-most = omega arith; no-span = λ x h k. absurd (omega arith); no-function = λ from x h k. absurd (omega arith) },
+  refl,
+)
+
+pub start-spec : {M : Type 1} → statement M
+start-spec = tie.close (tie.spec returns)

@@ -1,0 +1,173 @@
+-- The step of the search at a byte, in places of the whole text.
+use Prim.Native.Nat.{ℕ, zero, suc, pred, _+_, _-_, _≤_, _<_}
+use mathlib.Core.Path.{_≡_, refl, ap, sym, subst, _∙_}
+use mathlib.Core.Logic.{_≢_}
+use mathlib.Core.List.{List, [], _∷_}
+use mathlib.Core.Option.{Option, none, some}
+use native.Mathlib.Numerals.{sub-one, add-one}
+use native.Mathlib.Omega.{arith}
+use borrow.Author.Tests.{le-ltb}
+use lib.ListN.{length, take, drop, getD}
+use Rattle.text_rules.specs.Bytes.{_orElse_}
+use Rattle.text_rules.specs.Classes.{isSpace, isWord, lf}
+use Rattle.text_rules.specs.Search.{countAfter, part, run}
+use Rattle.source_rules.specs.Finding.{Places, functionAt, functionFrom, nameEnd, nameStart, spanLength}
+use Rattle.source_rules.specs.FindingLaws.{function-nameless}
+use Rattle.source_rules.specs.Measures.{cyclomaticOf, linesOf, nestingOf}
+use Rattle.source_rules.specs.MeasuresLaws.{count-after}
+use Rattle.source_rules.specs.Parameters.{paramsOf}
+use Rattle.source_rules.specs.PlaceLaws.{movedPlaces, part-rest, placesAt}
+use Rattle.source_rules.specs.TextScan.{TextFun, functionsFrom, measured, sought}
+use Rattle.source_rules.specs.TextScanLaws.{Fine, Here, fine}
+use Rattle.source_rules.specs.TextScanSteps.{byteBefore, function-at, functions-past, name-from, name-to, no-function}
+use Rattle.source_rules.specs.WalkSteps.{functions-end, functions-some}
+use Rattle.source.specs.Cursors.{Barren, Closed, FoundAt, MeasuredAt, Passes, Ready, SpanAt, Spanless, Yields, remaining, remainingAt, textFun}
+use Rattle.source.specs.declared.Brackets.{Brackets}
+use Rattle.source.specs.declared.Cursor.{Cursor}
+use Rattle.source.specs.declared.Found.{Found}
+use Rattle.source.specs.declared.Span.{Span}
+
+-- `end` is where the span at the byte ends
+module _ (s : List ℕ) (at line spanEnd resume end : ℕ) (h : at < length s) (e : end - at ≡ (spanEnd - at) orElse spanLength (drop at s)) where
+  pub step-past : sought (end - at) (resume - at) (byteBefore s at) (drop at s) ≡ none
+      → remainingAt s at line spanEnd resume ≡ remainingAt s (at + 1) (countAfter lf (getD s at 0) line) end resume
+  unfolding remainingAt
+  step-past n =
+      let b = getD s at 0 in
+      let p : end - at - 1 ≡ end - (at + 1) = omega arith in
+      let q : resume - at - 1 ≡ resume - (at + 1) = omega arith in
+      functions-past s at h spanLength line (spanEnd - at) (resume - at) (ap (λ k. sought k (resume - at) (byteBefore s at) (drop at s)) (sym e) ∙ n)
+      ∙ ap (λ k. functionsFrom spanLength (at + 1) (countAfter lf b line) (k - 1) (resume - at - 1) (byteBefore s (at + 1)) (drop (at + 1) s)) (sym e)
+      ∙ ap (λ k. functionsFrom spanLength (at + 1) (countAfter lf b line) k (resume - at - 1) (byteBefore s (at + 1)) (drop (at + 1) s)) p
+      ∙ ap (λ k. functionsFrom spanLength (at + 1) (countAfter lf b line) (end - (at + 1)) k (byteBefore s (at + 1)) (drop (at + 1) s)) q
+
+  pub step-found : (p : Places) → sought (end - at) (resume - at) (byteBefore s at) (drop at s) ≡ some p
+      → remainingAt s at line spanEnd resume ≡ measured at line (drop at s) p ∷ remainingAt s (at + 1) (countAfter lf (getD s at 0) line) end (at + p .bodyTo)
+  unfolding remainingAt
+  step-found p n =
+      let b = getD s at 0 in
+      let o : end - (at + 1) ≡ pred (end - at) = rw (sym (sub-one (end - at))) (omega arith) in
+      let q : at + p .bodyTo - (at + 1) ≡ pred (p .bodyTo) = rw (sym (sub-one (p .bodyTo))) (omega arith) in
+      functions-some s at h spanLength line (spanEnd - at) (resume - at) (byteBefore s at) p (ap (λ k. sought k (resume - at) (byteBefore s at) (drop at s)) (sym e) ∙ n)
+      ∙ ap (λ r. measured at line (drop at s) p ∷ r) (
+      ap (λ k. functionsFrom spanLength (at + 1) (countAfter lf b line) (pred k) (pred (p .bodyTo)) b (drop (at + 1) s)) (sym e)
+      ∙ rw (o, q, add-one at))
+
+-- the span at a byte: one that is open, none, or one that begins there
+pub span-open : (left n : ℕ) → 0 < left → left ≡ left orElse n
+span-open zero n h = absurd (omega arith)
+span-open (suc left) n h = refl
+
+pub span-none : (left n : ℕ) → n ≡ 0 → left ≡ left orElse n
+span-none zero n e = sym e
+span-none (suc left) n e = refl
+
+pub span-new : (left m n : ℕ) → left ≡ 0 → m ≡ n → m ≡ left orElse n
+span-new left m n z e = rw z e
+
+-- past a byte, without a function and with one
+module _ (s : List ℕ) (c : Cursor) (h : c .at < length s) (ready : Ready s c) (span : Span) (here : SpanAt s c span) (line : ℕ) (e : line ≡ countAfter lf (getD s (c .at) 0) (c .line)) where
+  abbrev past : (resume from to : ℕ) → Cursor
+  past resume from to = record { at = c .at + 1; line = line; «span_end» = span .end; resume = resume; spanless = span .spanless; «barren_from» = from; «barren_to» = to }
+
+  past-ready : (resume from to : ℕ) → Barren s from to → Ready s (past resume from to)
+  unfolding Spanless
+  past-ready resume from to gone =
+      let l : (c .line ≤ line) × (line ≤ suc (c .line)) = omega (arith, count-after lf (getD s (c .at) 0) (c .line)) in
+      record {
+        inside = omega arith;
+        line-least = omega (arith, ready .line-least);
+        line-most = omega (arith, ready .line-most);
+        no-span = λ x i k. here .no-span x (omega arith) k;
+        no-function = gone;
+      }
+
+  pub passes : sought (span .end - c .at) (c .resume - c .at) (byteBefore s (c .at)) (drop (c .at) s) ≡ none → (from to : ℕ) → Barren s from to → Passes s c (past (c .resume) from to)
+  unfolding remaining
+  passes n from to gone =
+      record {
+        same = step-past s (c .at) (c .line) (c .«span_end») (c .resume) (span .end) h (here .left) n ∙ ap (λ k. remainingAt s (c .at + 1) k (span .end) (c .resume)) (sym e);
+        ready = past-ready (c .resume) from to gone;
+        further = refl;
+      }
+
+  pub finds : (f : Found) (end : ℕ) (m : MeasuredAt s (c .at) (c .line) f end) → sought (span .end - c .at) (c .resume - c .at) (byteBefore s (c .at)) (drop (c .at) s) ≡ some (m .places)
+      → Yields s c f (past end (c .«barren_from») (c .«barren_to»))
+  unfolding remaining
+  finds f end m n =
+      let at : Here s (c .at) (c .line) (drop (c .at) s) = record { rest = refl; inside = omega arith; line-least = ready .line-least; line-most = omega (arith, ready .line-most) } in
+      record {
+        yields =
+            step-found s (c .at) (c .line) (c .«span_end») (c .resume) (span .end) h (here .left) (m .places) n
+            ∙ ap (λ g. g ∷ remainingAt s (c .at + 1) (countAfter lf (getD s (c .at) 0) (c .line)) (span .end) (c .at + m .places .bodyTo)) (sym (m .function-is))
+            ∙ ap (λ k. textFun s f ∷ remainingAt s (c .at + 1) k (span .end) (c .at + m .places .bodyTo)) (sym e)
+            ∙ ap (λ k. textFun s f ∷ remainingAt s (c .at + 1) line (span .end) k) (sym (m .end-is));
+        ready = past-ready end (c .«barren_from») (c .«barren_to») (ready .no-function);
+        further = omega arith;
+        name-inside = m .name-inside;
+        fine = subst (Fine s) (sym (m .function-is)) (fine s (c .at) (c .line) (drop (c .at) s) (m .places) at (m .found));
+      }
+
+-- a turn that finds a function finds it for every cursor that has the same functions
+pub yields-later : (s : List ℕ) (b c : Cursor) (f : Found) (d : Cursor) → remaining s c ≡ remaining s b → b .at ≤ c .at → Yields s c f d → Yields s b f d
+yields-later s b c f d e h y =
+    record { yields = sym e ∙ y .yields; ready = y .ready; further = omega (arith, y .further); name-inside = y .name-inside; fine = y .fine }
+
+pub remaining-end : (s : List ℕ) (c : Cursor) → length s ≤ c .at → remaining s c ≡ []
+unfolding remaining remainingAt
+remaining-end s c h = functions-end s (c .at) h spanLength (c .line) (c .«span_end» - c .at) (c .resume - c .at) (byteBefore s (c .at))
+
+-- the function at a place, by its name and its brackets
+abbrev placeIn : (Places → ℕ) → Option Places → ℕ
+placeIn g none = 0
+placeIn g (some p) = g p
+
+abbrev funAt : ℕ → List ℕ → (line lines cyclomatic nesting params : ℕ) → TextFun
+funAt at name line lines cyclomatic nesting params = record { nameAt = at; name = name; line = line; lines = lines; cyclomatic = cyclomatic; nesting = nesting; params = params }
+
+same-function : (a a′ : ℕ) (n n′ : List ℕ) (l l′ k k′ c c′ d d′ p p′ : ℕ) → a ≡ a′ → n ≡ n′ → l ≡ l′ → k ≡ k′ → c ≡ c′ → d ≡ d′ → p ≡ p′ → funAt a n l k c d p ≡ funAt a′ n′ l′ k′ c′ d′ p′
+same-function a a′ n n′ l l′ k k′ c c′ d d′ p p′ e₁ e₂ e₃ e₄ e₅ e₆ e₇ = cc
+
+module _ (s : List ℕ) (at from to : ℕ) (e : from ≡ at + 2 + run isSpace (drop (at + 2) s)) (d : to ≡ from + run isWord (drop from s)) where
+  from-is : from ≡ at + nameStart (drop at s)
+  from-is = e ∙ name-from s at
+
+  to-is : to ≡ at + nameEnd (drop at s)
+  to-is = d ∙ ap (λ k. k + run isWord (drop k s)) from-is ∙ name-to s at
+
+  pub nameless : to ≡ from → functionAt (drop at s) ≡ none
+  nameless z = function-nameless (drop at s) (le-ltb (nameStart (drop at s)) (nameEnd (drop at s)) (omega (arith, from-is, to-is)))
+
+  pub broken : from ≤ to → to ≢ from → ((start : ℕ) → functionFrom start to s ≡ none) → functionAt (drop at s) ≡ none
+  broken h n gone = no-function s at (omega (arith, from-is, to-is)) (ap (λ k. functionFrom (at + nameStart (drop at s)) k s) (sym to-is) ∙ gone (at + nameStart (drop at s)))
+
+  there : from ≤ to → (line : ℕ) (b : Brackets) (f : Found) → Closed s to b → FoundAt s line from to b f
+      → (p : Places) → functionAt (drop at s) ≡ some p → movedPlaces at (some p) ≡ some (placesAt (at + nameStart (drop at s)) to (b .opened) (b .closed) (b .body) (b .end))
+      → MeasuredAt s at line f (b .end + 1)
+  unfolding textFun measured
+  there h line b f c i p g m =
+      let m₁ : at + p .nameFrom ≡ from = ap (placeIn (λ q. q .nameFrom)) m ∙ sym from-is in
+      let m₂ : at + p .nameTo ≡ to = ap (placeIn (λ q. q .nameTo)) m in
+      let m₃ : at + p .paramsFrom ≡ b .opened + 1 = ap (placeIn (λ q. q .paramsFrom)) m ∙ sym (add-one (b .opened)) in
+      let m₄ : at + p .paramsTo ≡ b .closed = ap (placeIn (λ q. q .paramsTo)) m in
+      let m₅ : at + p .bodyFrom ≡ b .body = ap (placeIn (λ q. q .bodyFrom)) m in
+      let m₆ : at + p .bodyTo ≡ b .end + 1 = ap (placeIn (λ q. q .bodyTo)) m ∙ sym (add-one (b .end)) in
+      let name : part from to s ≡ part (p .nameFrom) (p .nameTo) (drop at s) = cc (m₁, m₂, part-rest at s (p .nameFrom) (p .nameTo)) in
+      let list : part (b .opened + 1) (b .closed) s ≡ part (p .paramsFrom) (p .paramsTo) (drop at s) = cc (m₃, m₄, part-rest at s (p .paramsFrom) (p .paramsTo)) in
+      let body : part (b .body) (b .end + 1) s ≡ part (p .bodyFrom) (p .bodyTo) (drop at s) = cc (m₅, m₆, part-rest at s (p .bodyFrom) (p .bodyTo)) in
+      let named : take (f .«name_len») (drop (f .«name_at») s) ≡ part from to s = cc (i .name-at-is, i .name-len-is) in
+      record {
+        places = p;
+        found = g;
+        function-is =
+            same-function _ _ _ _ _ _ _ _ _ _ _ _ _ _ (i .name-at-is ∙ sym m₁) (named ∙ name) (i .line-is) (i .lines-is ∙ ap linesOf body) (i .cyclomatic-is ∙ ap cyclomaticOf body)
+            (i .nesting-is ∙ ap nestingOf body) (i .params-is ∙ ap paramsOf list);
+        end-is = sym m₆;
+        name-inside = omega (arith, i .name-at-is, i .name-len-is, c .name-first, c .list-order, c .list-first, c .body-order, c .inside);
+      }
+
+  pub function-there : from ≤ to → to ≢ from → (line : ℕ) (b : Brackets) (f : Found) → Closed s to b → FoundAt s line from to b f → MeasuredAt s at line f (b .end + 1)
+  function-there h n line b f c i =
+      let q = placesAt (at + nameStart (drop at s)) to (b .opened) (b .closed) (b .body) (b .end) in
+      let (p, g, m) = function-at s at (omega (arith, from-is, to-is)) q (ap (λ k. functionFrom (at + nameStart (drop at s)) k s) (sym to-is) ∙ c .places (at + nameStart (drop at s))) in
+      there h line b f c i p g m

@@ -1,0 +1,277 @@
+// The functions of a blanked text, found and measured one after another.
+// The text is gone through byte by byte, bodies and test spans included: a test span may begin inside a body and reach past it, so no body is
+// jumped over.
+use search::Place;
+ghost use mathlib.Core.Path.{_≡_};
+ghost use mathlib.Core.List.{List};
+ghost use Prim.Native.Nat.{ℕ, _+_, _≤_, _<_};
+ghost use lib.ListN.{length};
+ghost use Rattle.source_rules.specs.TextScan.{functions};
+ghost use Rattle.source.specs.Cursors.{Barren, Closed, FoundAt, Measures, Ready, Signed, SpanAt, Stepped, Turned, remaining};
+
+// Where the search for functions stands in a text.
+pub struct Cursor {
+    // the byte to look at next, and its line
+    pub at: usize,
+    pub line: usize,
+    // the end of the last test span, and of the last body
+    pub span_end: usize,
+    pub resume: usize,
+    // What was sought in vain is not sought again: no test span begins from `at` up to the first place, and no name that ends from the second
+    // up to the third is a function's.
+    pub spanless: usize,
+    pub barren_from: usize,
+    pub barren_to: usize,
+}
+
+// A function: where its name stands in the text, and what is measured.
+pub struct Found {
+    pub name_at: usize,
+    pub name_len: usize,
+    pub line: usize,
+    pub lines: usize,
+    pub cyclomatic: usize,
+    pub nesting: usize,
+    pub params: usize,
+}
+
+// A function and the cursor behind it, or the end of the text.
+pub enum Step {
+    Function(Found, Cursor),
+    End,
+}
+
+// The brackets of a function after its name: those of its list and those of its body.
+struct Brackets {
+    opened: usize,
+    closed: usize,
+    body: usize,
+    end: usize,
+}
+
+// What follows a name: all four brackets; or not all, and then neither after any other name that ends from there up to the given place.
+enum Signature {
+    Whole(Brackets),
+    Broken(usize),
+}
+
+// What a word `fn` begins: a function, and where its body ends; or none, with the places between which no name that ends is a function's.
+enum Measure {
+    Counted(Found, usize),
+    Nothing(usize, usize),
+}
+
+// The test span at a byte: its end, no further than the byte where there is none; and the place up to which none begins.
+struct Span {
+    end: usize,
+    spanless: usize,
+}
+
+// One byte further, with a function or without.
+enum Turn {
+    Yield(Found, Cursor),
+    Past(Cursor),
+}
+
+// The brackets after a name that ends at `to`.
+fn signature_at(s: &[u8], to: usize) -> Signature
+    ensures { λ r. ⌜ Signed (now (s .entry)) to r ⌝ }
+{
+    let Place::At(opened) = search::find(s, b'(', to) else {
+        return Signature::Broken(s.len());
+    };
+    let Place::At(closed) = search::matching_delim(s, b'(', b')', opened + 1) else {
+        return Signature::Broken(opened + 1);
+    };
+    let Place::At(body) = search::body_open(s, closed + 1) else {
+        return Signature::Broken(opened + 1);
+    };
+    let Place::At(end) = search::matching_delim(s, b'{', b'}', body + 1) else {
+        return Signature::Broken(opened + 1);
+    };
+    Signature::Whole(Brackets {
+        opened,
+        closed,
+        body,
+        end,
+    })
+}
+
+// The function on a line whose name stands from one place up to another.
+fn found_at(s: &[u8], line: usize, from: usize, to: usize, b: Brackets) -> Found
+    requires { ⌜ (from ≤ to) × Closed (now s) to b ⌝ }
+    ensures { λ r. ⌜ FoundAt (now (s .entry)) line from to b r ⌝ }
+{
+    let params_from = b.opened + 1;
+    let params_to = b.closed;
+    let params = measures::count_params(&s[params_from..params_to]);
+    let body_from = b.body;
+    let body_to = b.end + 1;
+    let w = measures::walk(&s[body_from..body_to]);
+    Found {
+        name_at: from,
+        name_len: to - from,
+        line,
+        lines: w.lines,
+        cyclomatic: w.cyclomatic,
+        nesting: w.nesting,
+        params,
+    }
+}
+
+pub fn start() -> Cursor
+    ensures { λ r. ⌜ ((s : List ℕ) → Ready s r × (remaining s r ≡ functions s)) ⌝ }
+{
+    Cursor {
+        at: 0,
+        line: 1,
+        span_end: 0,
+        resume: 0,
+        spanless: 0,
+        barren_from: 0,
+        barren_to: 0,
+    }
+}
+
+impl Cursor {
+    // The function whose `fn` stands at the next byte.
+    fn measure(self, s: &[u8]) -> Measure
+        requires { ⌜ (self .at + 2 ≤ length (now s)) × Barren (now s) (self .«barren_from») (self .«barren_to») ⌝ }
+        ensures { λ r. ⌜ Measures (now (s .entry)) self r ⌝ }
+    {
+        let from = search::space_end(s, self.at + 2);
+        let to = search::word_end(s, from);
+        // `fn(u8) -> u8` is a type, not a definition.
+        if to == from {
+            return Measure::Nothing(self.barren_from, self.barren_to);
+        }
+        if self.barren_from <= to {
+            if to < self.barren_to {
+                return Measure::Nothing(self.barren_from, self.barren_to);
+            }
+        }
+        let g = signature_at(s, to);
+        match g {
+            Signature::Broken(n) => Measure::Nothing(to, n),
+            Signature::Whole(b) => {
+                let end = b.end + 1;
+                Measure::Counted(found_at(s, self.line, from, to, b), end)
+            }
+        }
+    }
+
+    // The test span at the next byte: the one that is open, or one that begins there.
+    fn span_at(self, s: &[u8]) -> Span
+        requires { ⌜ (self .at < length (now s)) × Ready (now s) self ⌝ }
+        ensures { λ r. ⌜ SpanAt (now (s .entry)) self r ⌝ }
+    {
+        let at = self.at;
+        let same = Span {
+            end: self.span_end,
+            spanless: self.spanless,
+        };
+        if at < self.span_end {
+            return same;
+        }
+        if s[at] != b'#' {
+            return same;
+        }
+        if at < self.spanless {
+            return same;
+        }
+        if !search::test_mark(s, at) {
+            return same;
+        }
+        let Place::At(opened) = search::find(s, b'{', at) else {
+            return Span {
+                end: self.span_end,
+                spanless: s.len(),
+            };
+        };
+        let Place::At(closed) = search::matching_delim(s, b'{', b'}', opened + 1) else {
+            return Span {
+                end: self.span_end,
+                spanless: opened + 1,
+            };
+        };
+        Span {
+            end: closed,
+            spanless: self.spanless,
+        }
+    }
+
+    // Past the next byte.
+    fn turn_at(self, s: &[u8]) -> Turn
+        requires { ⌜ (self .at < length (now s)) × Ready (now s) self ⌝ }
+        ensures { λ r. ⌜ Turned (now (s .entry)) self r ⌝ }
+    {
+        let at = self.at;
+        let b = s[at];
+        let span = self.span_at(s);
+        let c = Cursor {
+            at: at + 1,
+            line: search::count_after(b'\n', b, self.line),
+            span_end: span.end,
+            resume: self.resume,
+            spanless: span.spanless,
+            barren_from: self.barren_from,
+            barren_to: self.barren_to,
+        };
+        if b != b'f' {
+            return Turn::Past(c);
+        }
+        if at < span.end {
+            return Turn::Past(c);
+        }
+        if at < self.resume {
+            return Turn::Past(c);
+        }
+        if !search::word_at(s, at) {
+            return Turn::Past(c);
+        }
+        let m = self.measure(s);
+        match m {
+            Measure::Nothing(from, to) => Turn::Past(Cursor {
+                at: c.at,
+                line: c.line,
+                span_end: c.span_end,
+                resume: c.resume,
+                spanless: c.spanless,
+                barren_from: from,
+                barren_to: to,
+            }),
+            Measure::Counted(f, end) => Turn::Yield(
+                f,
+                Cursor {
+                    at: c.at,
+                    line: c.line,
+                    span_end: c.span_end,
+                    resume: end,
+                    spanless: c.spanless,
+                    barren_from: c.barren_from,
+                    barren_to: c.barren_to,
+                },
+            ),
+        }
+    }
+
+    // The next function of the text.
+    pub fn next(self, s: &[u8]) -> Step
+        requires { ⌜ Ready (now s) self ⌝ }
+        ensures { λ r. ⌜ Stepped (now (s .entry)) self r ⌝ }
+    {
+        let mut c = self;
+        while c.at < s.len() {
+            let t = c.turn_at(s);
+            match t {
+                Turn::Yield(f, d) => {
+                    return Step::Function(f, d);
+                }
+                Turn::Past(d) => {
+                    c = d;
+                }
+            }
+        }
+        Step::End
+    }
+}
