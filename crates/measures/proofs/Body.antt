@@ -10,7 +10,7 @@ use lib.Dec.{eqb}
 use lib.ListN.{drop, getD, length, length-drop}
 use lib.Seq.{drop-drop, getD-drop}
 use borrow.Author.Tests.{eq-eqb, ne-eqb}
-use Rattle.text_rules.specs.Bytes.{among, ascii, if_then_else_}
+use Rattle.text_rules.specs.Bytes.{among, ascii, if_then_else_, same}
 use Rattle.text_rules.specs.Classes.{ampersand, angleClose, bar, braceClose, braceOpen, equals, isLetter, isWord, lf, question}
 use Rattle.text_rules.specs.ScanLaws.{head-at, split}
 use Rattle.text_rules.specs.Search.{countAfter, opens, part, run}
@@ -71,6 +71,25 @@ module _ (s : List ℕ) (at : ℕ) (h : at < length s) where
 
     pub cyclomatic-same : decides (drop at s) ≡ false → cyclomaticFrom n 0 (drop at s) ≡ cyclomaticFrom n 0 (drop (at + pieceLength (drop at s)) s)
     cyclomatic-same e = cyclomatic-jump n ∙ rw e
+
+-- the words that decide, tried one after another
+module _ (w : List ℕ) where
+  abbrev words : List (List ℕ)
+  words = ascii "if" ∷ ascii "while" ∷ ascii "for" ∷ ascii "loop" ∷ []
+
+  pub word-if : same (ascii "if") w ≡ true → among w words ≡ true
+  word-if t = rw t
+
+  module _ (n1 : same (ascii "if") w ≡ false) where
+    pub word-while : same (ascii "while") w ≡ true → among w words ≡ true
+    word-while t = rw (n1, t)
+
+    module _ (n2 : same (ascii "while") w ≡ false) where
+      pub word-for : same (ascii "for") w ≡ true → among w words ≡ true
+      word-for t = rw (n1, n2, t)
+
+      pub word-loop : same (ascii "for") w ≡ false → among w words ≡ same (ascii "loop") w
+      word-loop n3 = rw (n1, n2, n3) (or-false (same (ascii "loop") w))
 
 -- a pair whose first byte is known
 module _ (c : ℕ) where

@@ -1,15 +1,15 @@
--- One step of each comparison of texts at a place: the last byte, two texts, a text among others, and a word as the beginning of a text.
+-- One step of each comparison of texts at a place: the last byte, two texts, and a word as the beginning of a text.
 -- Places are counted as in code, by `i + 1`.
 use Prim.Native.Nat.{ℕ, suc, _+_, _-_, _≤_, _<_}
 use mathlib.Core.Path.{_≡_, refl, ap, _∙_}
 use mathlib.Core.Logic.{_≢_, inl, inr}
-use mathlib.Core.Bool.{true, false, _&&_, or-false}
+use mathlib.Core.Bool.{true, false, _&&_}
 use mathlib.Core.List.{List, [], _∷_}
 use native.Mathlib.Omega.{arith}
 use lib.Dec.{eqb}
 use lib.ListN.{drop, drop-of-length-le, getD, length}
 use borrow.Author.Tests.{eq-eqb, ne-eqb}
-use Rattle.text_rules.specs.Bytes.{among, same}
+use Rattle.text_rules.specs.Bytes.{same}
 use Rattle.text_rules.specs.BytesLaws.{same-true, whether}
 use Rattle.text_rules.specs.ScanLaws.{split}
 use Rattle.text_rules.specs.Search.{endsIn, startsWith}
@@ -40,17 +40,6 @@ module _ (s t : List ℕ) (i : ℕ) where
 
   pub same-end : length s ≤ i → length t ≤ i → same (drop i s) (drop i t) ≡ true
   same-end h k = rw (drop-of-length-le s h, drop-of-length-le t k)
-
--- a text among others: it is the first, or it is looked for among the rest
-module _ (w t : List ℕ) where
-  pub among-here : (ts : List (List ℕ)) → same t w ≡ true → among w (t ∷ ts) ≡ true
-  among-here ts e = rw e
-
-  pub among-next : (ts : List (List ℕ)) → same t w ≡ false → among w (t ∷ ts) ≡ among w ts
-  among-next ts e = rw e
-
-  pub among-last : among w (t ∷ []) ≡ same t w
-  among-last = or-false (same t w)
 
 -- a word from its byte i on, as the beginning of a text
 module _ (word : List ℕ) (i : ℕ) where

@@ -29,7 +29,18 @@ module _ (b : ℕ) where
 
   pub row-low : 0x80 ≤ b → b < 0xC2 → illFormed ≡ follow b
   unfolding follow
-  row-low l h = rw (above 0x00 0x7F (omega arith) (omega arith), below 0xC2 0xDF (omega arith), below 0xE0 0xE0 (omega arith), below 0xE1 0xEC (omega arith), below 0xED 0xED (omega arith), below 0xEE 0xEF (omega arith), below 0xF0 0xF0 (omega arith), below 0xF1 0xF3 (omega arith), below 0xF4 0xF4 (omega arith))
+  row-low l h =
+      rw (
+        above 0x00 0x7F (omega arith) (omega arith),
+        below 0xC2 0xDF (omega arith),
+        below 0xE0 0xE0 (omega arith),
+        below 0xE1 0xEC (omega arith),
+        below 0xED 0xED (omega arith),
+        below 0xEE 0xEF (omega arith),
+        below 0xF0 0xF0 (omega arith),
+        below 0xF1 0xF3 (omega arith),
+        below 0xF4 0xF4 (omega arith),
+      )
 
   pub row-c2 : 0xC2 ≤ b → b ≤ 0xDF → by (0x80 to 0xBF ∷ []) ≡ follow b
   unfolding follow
@@ -41,28 +52,90 @@ module _ (b : ℕ) where
 
   pub row-e1 : 0xE1 ≤ b → b ≤ 0xEC → by (0x80 to 0xBF ∷ 0x80 to 0xBF ∷ []) ≡ follow b
   unfolding follow
-  row-e1 l h = rw (above 0x00 0x7F (omega arith) (omega arith), above 0xC2 0xDF (omega arith) (omega arith), above 0xE0 0xE0 (omega arith) (omega arith), inside 0xE1 0xEC l h)
+  row-e1 l h =
+      rw (
+        above 0x00 0x7F (omega arith) (omega arith),
+        above 0xC2 0xDF (omega arith) (omega arith),
+        above 0xE0 0xE0 (omega arith) (omega arith),
+        inside 0xE1 0xEC l h,
+      )
 
   pub row-ed : 0xED ≤ b → b ≤ 0xED → by (0x80 to 0x9F ∷ 0x80 to 0xBF ∷ []) ≡ follow b
   unfolding follow
-  row-ed l h = rw (above 0x00 0x7F (omega arith) (omega arith), above 0xC2 0xDF (omega arith) (omega arith), above 0xE0 0xE0 (omega arith) (omega arith), above 0xE1 0xEC (omega arith) (omega arith), inside 0xED 0xED l h)
+  row-ed l h =
+      rw (
+        above 0x00 0x7F (omega arith) (omega arith),
+        above 0xC2 0xDF (omega arith) (omega arith),
+        above 0xE0 0xE0 (omega arith) (omega arith),
+        above 0xE1 0xEC (omega arith) (omega arith),
+        inside 0xED 0xED l h,
+      )
 
   pub row-ee : 0xEE ≤ b → b ≤ 0xEF → by (0x80 to 0xBF ∷ 0x80 to 0xBF ∷ []) ≡ follow b
   unfolding follow
-  row-ee l h = rw (above 0x00 0x7F (omega arith) (omega arith), above 0xC2 0xDF (omega arith) (omega arith), above 0xE0 0xE0 (omega arith) (omega arith), above 0xE1 0xEC (omega arith) (omega arith), above 0xED 0xED (omega arith) (omega arith), inside 0xEE 0xEF l h)
+  row-ee l h =
+      rw (
+        above 0x00 0x7F (omega arith) (omega arith),
+        above 0xC2 0xDF (omega arith) (omega arith),
+        above 0xE0 0xE0 (omega arith) (omega arith),
+        above 0xE1 0xEC (omega arith) (omega arith),
+        above 0xED 0xED (omega arith) (omega arith),
+        inside 0xEE 0xEF l h,
+      )
 
   pub row-f0 : 0xF0 ≤ b → b ≤ 0xF0 → by (0x90 to 0xBF ∷ 0x80 to 0xBF ∷ 0x80 to 0xBF ∷ []) ≡ follow b
   unfolding follow
-  row-f0 l h = rw (above 0x00 0x7F (omega arith) (omega arith), above 0xC2 0xDF (omega arith) (omega arith), above 0xE0 0xE0 (omega arith) (omega arith), above 0xE1 0xEC (omega arith) (omega arith), above 0xED 0xED (omega arith) (omega arith), above 0xEE 0xEF (omega arith) (omega arith), inside 0xF0 0xF0 l h)
+  row-f0 l h =
+      rw (
+        above 0x00 0x7F (omega arith) (omega arith),
+        above 0xC2 0xDF (omega arith) (omega arith),
+        above 0xE0 0xE0 (omega arith) (omega arith),
+        above 0xE1 0xEC (omega arith) (omega arith),
+        above 0xED 0xED (omega arith) (omega arith),
+        above 0xEE 0xEF (omega arith) (omega arith),
+        inside 0xF0 0xF0 l h,
+      )
 
   pub row-f1 : 0xF1 ≤ b → b ≤ 0xF3 → by (0x80 to 0xBF ∷ 0x80 to 0xBF ∷ 0x80 to 0xBF ∷ []) ≡ follow b
   unfolding follow
-  row-f1 l h = rw (above 0x00 0x7F (omega arith) (omega arith), above 0xC2 0xDF (omega arith) (omega arith), above 0xE0 0xE0 (omega arith) (omega arith), above 0xE1 0xEC (omega arith) (omega arith), above 0xED 0xED (omega arith) (omega arith), above 0xEE 0xEF (omega arith) (omega arith), above 0xF0 0xF0 (omega arith) (omega arith), inside 0xF1 0xF3 l h)
+  row-f1 l h =
+      rw (
+        above 0x00 0x7F (omega arith) (omega arith),
+        above 0xC2 0xDF (omega arith) (omega arith),
+        above 0xE0 0xE0 (omega arith) (omega arith),
+        above 0xE1 0xEC (omega arith) (omega arith),
+        above 0xED 0xED (omega arith) (omega arith),
+        above 0xEE 0xEF (omega arith) (omega arith),
+        above 0xF0 0xF0 (omega arith) (omega arith),
+        inside 0xF1 0xF3 l h,
+      )
 
   pub row-f4 : 0xF4 ≤ b → b ≤ 0xF4 → by (0x80 to 0x8F ∷ 0x80 to 0xBF ∷ 0x80 to 0xBF ∷ []) ≡ follow b
   unfolding follow
-  row-f4 l h = rw (above 0x00 0x7F (omega arith) (omega arith), above 0xC2 0xDF (omega arith) (omega arith), above 0xE0 0xE0 (omega arith) (omega arith), above 0xE1 0xEC (omega arith) (omega arith), above 0xED 0xED (omega arith) (omega arith), above 0xEE 0xEF (omega arith) (omega arith), above 0xF0 0xF0 (omega arith) (omega arith), above 0xF1 0xF3 (omega arith) (omega arith), inside 0xF4 0xF4 l h)
+  row-f4 l h =
+      rw (
+        above 0x00 0x7F (omega arith) (omega arith),
+        above 0xC2 0xDF (omega arith) (omega arith),
+        above 0xE0 0xE0 (omega arith) (omega arith),
+        above 0xE1 0xEC (omega arith) (omega arith),
+        above 0xED 0xED (omega arith) (omega arith),
+        above 0xEE 0xEF (omega arith) (omega arith),
+        above 0xF0 0xF0 (omega arith) (omega arith),
+        above 0xF1 0xF3 (omega arith) (omega arith),
+        inside 0xF4 0xF4 l h,
+      )
 
   pub row-high : 0xF5 ≤ b → illFormed ≡ follow b
   unfolding follow
-  row-high l = rw (above 0x00 0x7F (omega arith) (omega arith), above 0xC2 0xDF (omega arith) (omega arith), above 0xE0 0xE0 (omega arith) (omega arith), above 0xE1 0xEC (omega arith) (omega arith), above 0xED 0xED (omega arith) (omega arith), above 0xEE 0xEF (omega arith) (omega arith), above 0xF0 0xF0 (omega arith) (omega arith), above 0xF1 0xF3 (omega arith) (omega arith), above 0xF4 0xF4 (omega arith) (omega arith))
+  row-high l =
+      rw (
+        above 0x00 0x7F (omega arith) (omega arith),
+        above 0xC2 0xDF (omega arith) (omega arith),
+        above 0xE0 0xE0 (omega arith) (omega arith),
+        above 0xE1 0xEC (omega arith) (omega arith),
+        above 0xED 0xED (omega arith) (omega arith),
+        above 0xEE 0xEF (omega arith) (omega arith),
+        above 0xF0 0xF0 (omega arith) (omega arith),
+        above 0xF1 0xF3 (omega arith) (omega arith),
+        above 0xF4 0xF4 (omega arith) (omega arith),
+      )
