@@ -1,2 +1,2 @@
--- A place as the code tells it.
+-- A place as the code tells it, and what a search in vain tells.
 pub mod Place

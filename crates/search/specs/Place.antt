@@ -1,9 +1,28 @@
--- A place as the code tells it.
-use Prim.Native.Nat.{ℕ}
+-- A place as the code tells it, and what a search for a body that found none tells.
+use Prim.Native.Nat.{ℕ, _≤_}
+use mathlib.Core.Path.{_≡_}
+use mathlib.Core.Bool.{true}
+use mathlib.Core.List.{List}
 use mathlib.Core.Option.{Option, none, some}
+use lib.ListN.{drop}
+use Rattle.source_rules.specs.Finding.{bodyAt, flat}
+use Rattle.search.specs.declared.Bare.{Bare}
 use Rattle.search.specs.declared.Place.{Place}
 use Rattle.search.specs.declared.Place.the-variants.{At, Nowhere}
 
 abbrev pub placeOf : Place → Option ℕ
 placeOf (At n) = some n
 placeOf Nowhere = none
+
+-- the search finds no body from its place on, with the counts that it has there
+pub record Vain (s : List ℕ) (v : Bare) : Type 0 where
+  pub none-there : v .known ≡ true → bodyAt (v .angle) (v .opened) (v .closed) (v .at) (drop (v .at) s) ≡ none
+  pub angle-most : v .angle ≤ v .at
+  pub opened-most : v .opened ≤ v .at
+  pub closed-most : v .closed ≤ v .at
+
+-- the search stands at a place at angle and square depth 0
+pub record Passed (v : Bare) (from : ℕ) : Type 0 where
+  pub is-known : v .known ≡ true
+  pub stands : v .at ≡ from
+  pub level : flat (v .angle) (v .opened) (v .closed) ≡ true

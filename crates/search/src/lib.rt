@@ -2,6 +2,7 @@
 // and the mark of test code. Each goes over the bytes once, from the place where it begins.
 ghost use mathlib.Core.Path.{_≡_};
 ghost use mathlib.Core.Logic.{_≢_};
+ghost use mathlib.Core.Bool.{true};
 ghost use mathlib.Core.List.{_∷_};
 ghost use Prim.Native.Nat.{_+_, _≤_, _<_};
 ghost use lib.ListN.{length, getD, drop};
@@ -10,7 +11,7 @@ ghost use Rattle.text_rules.specs.Classes.{isSpace, isWord};
 ghost use Rattle.text_rules.specs.Search.{countAfter, find, run, startsWith};
 ghost use Rattle.source_rules.specs.Brackets.{partner};
 ghost use Rattle.source_rules.specs.Finding.{angleAfter, bodyAt, flat, isFn};
-ghost use Rattle.search.specs.Place.{placeOf};
+ghost use Rattle.search.specs.Place.{Passed, Vain, placeOf};
 
 // A place in a text, if there is one.
 pub enum Place {
@@ -111,6 +112,101 @@ pub fn body_open(s: &[u8], from: usize) -> Place
         at += 1;
     }
     Place::Nowhere
+}
+
+// A search for a body that found none, at a place that it passed, with the counts that it had there. Until one is known, nothing is.
+pub struct Bare {
+    pub known: bool,
+    pub at: usize,
+    pub angle: usize,
+    pub opened: usize,
+    pub closed: usize,
+}
+
+// The same search further on, unless it ended before.
+fn taken_on(s: &[u8], v: Bare, to: usize) -> Bare
+    requires { ⌜ (to ≤ length (now s)) × Vain (now s) v ⌝ }
+    ensures { λ r. ⌜ Vain (now (s .entry)) r ⌝ }
+{
+    if !v.known {
+        return v;
+    }
+    let mut angle = v.angle;
+    let mut opened = v.opened;
+    let mut closed = v.closed;
+    let mut at = v.at;
+    while at < to {
+        let b = s[at];
+        if is_flat(angle, opened, closed) {
+            if b == b';' {
+                return Bare {
+                    known: false,
+                    at,
+                    angle,
+                    opened,
+                    closed,
+                };
+            }
+        }
+        angle = angle_after(b, angle);
+        opened = count_after(b'[', b, opened);
+        closed = count_after(b']', b, closed);
+        at += 1;
+    }
+    Bare {
+        known: true,
+        at,
+        angle,
+        opened,
+        closed,
+    }
+}
+
+// Whether the search stands at a place at angle and square depth 0, so that one that begins there finds none either.
+fn is_bare(v: Bare, from: usize) -> bool
+    ensures { λ r. ⌜ (r ≡ true → Passed v from) ⌝ }
+{
+    if !v.known {
+        return false;
+    }
+    if v.at != from {
+        return false;
+    }
+    is_flat(v.angle, v.opened, v.closed)
+}
+
+// The brace that opens a body, and the last search that found none.
+pub struct Sought {
+    pub place: Place,
+    pub bare: Bare,
+}
+
+// The brace that opens a body. Signatures without a body that follow each other are passed by one search.
+pub fn body_after(s: &[u8], from: usize, v: Bare) -> Sought
+    requires { ⌜ (from ≤ length (now s)) × Vain (now s) v ⌝ }
+    ensures { λ r. ⌜ (placeOf (r .place) ≡ bodyAt 0 0 0 from (drop from (now (s .entry)))) × Vain (now (s .entry)) (r .bare) ⌝ }
+{
+    let bare = taken_on(s, v, from);
+    if is_bare(bare, from) {
+        return Sought {
+            place: Place::Nowhere,
+            bare,
+        };
+    }
+    let place = body_open(s, from);
+    match place {
+        Place::At(p) => Sought { place, bare },
+        Place::Nowhere => Sought {
+            place,
+            bare: Bare {
+                known: true,
+                at: from,
+                angle: 0,
+                opened: 0,
+                closed: 0,
+            },
+        },
+    }
 }
 
 // The end of the white space that begins at a place.

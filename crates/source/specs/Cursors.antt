@@ -13,6 +13,7 @@ use Rattle.source_rules.specs.PlaceLaws.{blockFrom, placesAt}
 use Rattle.source_rules.specs.TextScan.{TextFun, functionsFrom, measured}
 use Rattle.source_rules.specs.TextScanLaws.{Fine}
 use Rattle.source_rules.specs.TextScanSteps.{byteBefore}
+use Rattle.search.specs.Place.{Vain}
 use Rattle.source.specs.declared.Brackets.{Brackets}
 use Rattle.source.specs.declared.Cursor.{Cursor}
 use Rattle.source.specs.declared.Found.{Found}
@@ -62,6 +63,7 @@ pub record Ready (s : List ℕ) (c : Cursor) : Type 0 where
   pub line-most : c .line ≤ c .at + 1
   pub no-span : Spanless s (c .at) (c .spanless)
   pub no-function : Barren s (c .«barren_from») (c .«barren_to»)
+  pub vain : Vain s (c .bare)
 
 -- a function is found, and the cursor behind it has the others. The function's numbers are at most the text's length
 pub record Yields (s : List ℕ) (c : Cursor) (f : Found) (d : Cursor) : Type 0 where
@@ -69,6 +71,11 @@ pub record Yields (s : List ℕ) (c : Cursor) (f : Found) (d : Cursor) : Type 0 
   pub ready : Ready s d
   pub further : c .at < d .at
   pub name-inside : f .«name_at» + f .«name_len» ≤ length s
+  pub line-most : f .line ≤ length s
+  pub lines-most : f .lines ≤ length s
+  pub cyclomatic-most : f .cyclomatic ≤ length s
+  pub nesting-most : f .nesting ≤ length s
+  pub params-most : f .params ≤ length s
   pub fine : Fine s (textFun s f)
 
 pub record Passes (s : List ℕ) (c d : Cursor) : Type 0 where
@@ -103,8 +110,8 @@ pub record Missing (s : List ℕ) (to n : ℕ) : Type 0 where
   pub no-function : Barren s to n
 
 abbrev pub Signed : List ℕ → ℕ → Signature → Type 0
-Signed s to (Whole b) = Closed s to b
-Signed s to (Broken n) = Missing s to n
+Signed s to (Whole b v) = Closed s to b × Vain s v
+Signed s to (Broken n v) = Missing s to n × Vain s v
 
 -- what is measured of a function whose name and brackets are given
 pub record FoundAt (s : List ℕ) (line from to : ℕ) (b : Brackets) (f : Found) : Type 0 where
@@ -129,5 +136,5 @@ pub record NoneAt (s : List ℕ) (at from to : ℕ) : Type 0 where
   pub no-function : Barren s from to
 
 abbrev pub Measures : List ℕ → Cursor → Measure → Type 0
-Measures s c (Counted f end) = MeasuredAt s (c .at) (c .line) f end
-Measures s c (Nothing from to) = NoneAt s (c .at) from to
+Measures s c (Counted f end v) = MeasuredAt s (c .at) (c .line) f end × Vain s v
+Measures s c (Nothing from to v) = NoneAt s (c .at) from to × Vain s v

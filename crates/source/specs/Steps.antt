@@ -21,6 +21,8 @@ use Rattle.source_rules.specs.TextScan.{TextFun, functionsFrom, measured, sough
 use Rattle.source_rules.specs.TextScanLaws.{Fine, Here, fine}
 use Rattle.source_rules.specs.TextScanSteps.{byteBefore, function-at, functions-past, name-from, name-to, no-function}
 use Rattle.source_rules.specs.WalkSteps.{functions-end, functions-some}
+use Rattle.search.specs.Place.{Vain}
+use Rattle.search.specs.declared.Bare.{Bare}
 use Rattle.source.specs.Cursors.{Barren, Closed, FoundAt, MeasuredAt, Passes, Ready, SpanAt, Spanless, Yields, remaining, remainingAt, textFun}
 use Rattle.source.specs.declared.Brackets.{Brackets}
 use Rattle.source.specs.declared.Cursor.{Cursor}
@@ -67,12 +69,12 @@ span-new left m n z e = rw z e
 
 -- past a byte, without a function and with one
 module _ (s : List ℕ) (c : Cursor) (h : c .at < length s) (ready : Ready s c) (span : Span) (here : SpanAt s c span) (line : ℕ) (e : line ≡ countAfter lf (getD s (c .at) 0) (c .line)) where
-  abbrev past : (resume from to : ℕ) → Cursor
-  past resume from to = record { at = c .at + 1; line = line; «span_end» = span .end; resume = resume; spanless = span .spanless; «barren_from» = from; «barren_to» = to }
+  abbrev past : (resume from to : ℕ) → Bare → Cursor
+  past resume from to v = record { at = c .at + 1; line = line; «span_end» = span .end; resume = resume; spanless = span .spanless; «barren_from» = from; «barren_to» = to; bare = v }
 
-  past-ready : (resume from to : ℕ) → Barren s from to → Ready s (past resume from to)
+  past-ready : (resume from to : ℕ) (v : Bare) → Barren s from to → Vain s v → Ready s (past resume from to v)
   unfolding Spanless
-  past-ready resume from to gone =
+  past-ready resume from to v gone vain =
       let l : (c .line ≤ line) × (line ≤ suc (c .line)) = omega (arith, count-after lf (getD s (c .at) 0) (c .line)) in
       record {
         inside = omega arith;
@@ -80,38 +82,56 @@ module _ (s : List ℕ) (c : Cursor) (h : c .at < length s) (ready : Ready s c) 
         line-most = omega (arith, ready .line-most);
         no-span = λ x i k. here .no-span x (omega arith) k;
         no-function = gone;
+        vain = vain;
       }
 
-  pub passes : sought (span .end - c .at) (c .resume - c .at) (byteBefore s (c .at)) (drop (c .at) s) ≡ none → (from to : ℕ) → Barren s from to → Passes s c (past (c .resume) from to)
+  pub passes : sought (span .end - c .at) (c .resume - c .at) (byteBefore s (c .at)) (drop (c .at) s) ≡ none → (from to : ℕ) (v : Bare) → Barren s from to → Vain s v → Passes s c (past (c .resume) from to v)
   unfolding remaining
-  passes n from to gone =
+  passes n from to v gone vain =
       record {
         same = step-past s (c .at) (c .line) (c .«span_end») (c .resume) (span .end) h (here .left) n ∙ ap (λ k. remainingAt s (c .at + 1) k (span .end) (c .resume)) (sym e);
-        ready = past-ready (c .resume) from to gone;
+        ready = past-ready (c .resume) from to v gone vain;
         further = refl;
       }
 
   pub finds : (f : Found) (end : ℕ) (m : MeasuredAt s (c .at) (c .line) f end) → sought (span .end - c .at) (c .resume - c .at) (byteBefore s (c .at)) (drop (c .at) s) ≡ some (m .places)
-      → Yields s c f (past end (c .«barren_from») (c .«barren_to»))
-  unfolding remaining
-  finds f end m n =
-      let at : Here s (c .at) (c .line) (drop (c .at) s) = record { rest = refl; inside = omega arith; line-least = ready .line-least; line-most = omega (arith, ready .line-most) } in
+      → (v : Bare) → Vain s v → Yields s c f (past end (c .«barren_from») (c .«barren_to») v)
+  unfolding remaining textFun
+  finds f end m n v vain =
+      let here-at : Here s (c .at) (c .line) (drop (c .at) s) = record { rest = refl; inside = omega arith; line-least = ready .line-least; line-most = omega (arith, ready .line-most) } in
+      let g : Fine s (textFun s f) = subst (Fine s) (sym (m .function-is)) (fine s (c .at) (c .line) (drop (c .at) s) (m .places) here-at (m .found)) in
       record {
         yields =
             step-found s (c .at) (c .line) (c .«span_end») (c .resume) (span .end) h (here .left) (m .places) n
             ∙ ap (λ g. g ∷ remainingAt s (c .at + 1) (countAfter lf (getD s (c .at) 0) (c .line)) (span .end) (c .at + m .places .bodyTo)) (sym (m .function-is))
             ∙ ap (λ k. textFun s f ∷ remainingAt s (c .at + 1) k (span .end) (c .at + m .places .bodyTo)) (sym e)
             ∙ ap (λ k. textFun s f ∷ remainingAt s (c .at + 1) line (span .end) k) (sym (m .end-is));
-        ready = past-ready end (c .«barren_from») (c .«barren_to») (ready .no-function);
+        ready = past-ready end (c .«barren_from») (c .«barren_to») v (ready .no-function) vain;
         further = omega arith;
         name-inside = m .name-inside;
-        fine = subst (Fine s) (sym (m .function-is)) (fine s (c .at) (c .line) (drop (c .at) s) (m .places) at (m .found));
+        line-most = g .line-most;
+        lines-most = g .lines-most;
+        cyclomatic-most = omega (arith, g .cyclomatic-most);
+        nesting-most = omega (arith, g .nesting-most);
+        params-most = g .params-most;
+        fine = g;
       }
 
 -- a turn that finds a function finds it for every cursor that has the same functions
 pub yields-later : (s : List ℕ) (b c : Cursor) (f : Found) (d : Cursor) → remaining s c ≡ remaining s b → b .at ≤ c .at → Yields s c f d → Yields s b f d
 yields-later s b c f d e h y =
-    record { yields = sym e ∙ y .yields; ready = y .ready; further = omega (arith, y .further); name-inside = y .name-inside; fine = y .fine }
+    record {
+      yields = sym e ∙ y .yields;
+      ready = y .ready;
+      further = omega (arith, y .further);
+      name-inside = y .name-inside;
+      line-most = y .line-most;
+      lines-most = y .lines-most;
+      cyclomatic-most = y .cyclomatic-most;
+      nesting-most = y .nesting-most;
+      params-most = y .params-most;
+      fine = y .fine;
+    }
 
 pub remaining-end : (s : List ℕ) (c : Cursor) → length s ≤ c .at → remaining s c ≡ []
 unfolding remaining remainingAt

@@ -1,11 +1,13 @@
 // The functions of a blanked text, found and measured one after another.
 // The text is gone through byte by byte, bodies and test spans included: a test span may begin inside a body and reach past it, so no body is
 // jumped over.
+use search::Bare;
 use search::Place;
 ghost use mathlib.Core.Path.{_≡_};
 ghost use mathlib.Core.List.{List};
 ghost use Prim.Native.Nat.{ℕ, _+_, _≤_, _<_};
 ghost use lib.ListN.{length};
+ghost use Rattle.search.specs.Place.{Vain};
 ghost use Rattle.source_rules.specs.TextScan.{functions};
 ghost use Rattle.source.specs.Cursors.{Barren, Closed, FoundAt, Measures, Ready, Signed, SpanAt, Stepped, Turned, remaining};
 
@@ -17,11 +19,12 @@ pub struct Cursor {
     // the end of the last test span, and of the last body
     pub span_end: usize,
     pub resume: usize,
-    // What was sought in vain is not sought again: no test span begins from `at` up to the first place, and no name that ends from the second
-    // up to the third is a function's.
+    // What was sought in vain is not sought again: no test span begins from `at` up to the first place, no name that ends from the second up to
+    // the third is a function's, and a search for a body found none.
     pub spanless: usize,
     pub barren_from: usize,
     pub barren_to: usize,
+    pub bare: Bare,
 }
 
 // A function: where its name stands in the text, and what is measured.
@@ -49,16 +52,17 @@ struct Brackets {
     end: usize,
 }
 
-// What follows a name: all four brackets; or not all, and then neither after any other name that ends from there up to the given place.
+// What follows a name: all four brackets; or not all, and then neither after any other name that ends from there up to the given place. With
+// it, the last search for a body that found none.
 enum Signature {
-    Whole(Brackets),
-    Broken(usize),
+    Whole(Brackets, Bare),
+    Broken(usize, Bare),
 }
 
 // What a word `fn` begins: a function, and where its body ends; or none, with the places between which no name that ends is a function's.
 enum Measure {
-    Counted(Found, usize),
-    Nothing(usize, usize),
+    Counted(Found, usize, Bare),
+    Nothing(usize, usize, Bare),
 }
 
 // The test span at a byte: its end, no further than the byte where there is none; and the place up to which none begins.
@@ -74,27 +78,35 @@ enum Turn {
 }
 
 // The brackets after a name that ends at `to`.
-fn signature_at(s: &[u8], to: usize) -> Signature
+fn signature_at(s: &[u8], to: usize, v: Bare) -> Signature
+    requires { ⌜ Vain (now s) v ⌝ }
     ensures { λ r. ⌜ Signed (now (s .entry)) to r ⌝ }
 {
     let Place::At(opened) = search::find(s, b'(', to) else {
-        return Signature::Broken(s.len());
+        return Signature::Broken(s.len(), v);
     };
-    let Place::At(closed) = search::matching_delim(s, b'(', b')', opened + 1) else {
-        return Signature::Broken(opened + 1);
+    let inside = opened + 1;
+    let Place::At(closed) = search::matching_delim(s, b'(', b')', inside) else {
+        return Signature::Broken(inside, v);
     };
-    let Place::At(body) = search::body_open(s, closed + 1) else {
-        return Signature::Broken(opened + 1);
+    let sought = search::body_after(s, closed + 1, v);
+    let bare = sought.bare;
+    let place = sought.place;
+    let Place::At(body) = place else {
+        return Signature::Broken(inside, bare);
     };
     let Place::At(end) = search::matching_delim(s, b'{', b'}', body + 1) else {
-        return Signature::Broken(opened + 1);
+        return Signature::Broken(inside, bare);
     };
-    Signature::Whole(Brackets {
-        opened,
-        closed,
-        body,
-        end,
-    })
+    Signature::Whole(
+        Brackets {
+            opened,
+            closed,
+            body,
+            end,
+        },
+        bare,
+    )
 }
 
 // The function on a line whose name stands from one place up to another.
@@ -130,32 +142,40 @@ pub fn start() -> Cursor
         spanless: 0,
         barren_from: 0,
         barren_to: 0,
+        bare: Bare {
+            known: false,
+            at: 0,
+            angle: 0,
+            opened: 0,
+            closed: 0,
+        },
     }
 }
 
 impl Cursor {
     // The function whose `fn` stands at the next byte.
     fn measure(self, s: &[u8]) -> Measure
-        requires { ⌜ (self .at + 2 ≤ length (now s)) × Barren (now s) (self .«barren_from») (self .«barren_to») ⌝ }
+        requires { ⌜ (self .at + 2 ≤ length (now s)) × Barren (now s) (self .«barren_from») (self .«barren_to») × Vain (now s) (self .bare) ⌝ }
         ensures { λ r. ⌜ Measures (now (s .entry)) self r ⌝ }
     {
         let from = search::space_end(s, self.at + 2);
         let to = search::word_end(s, from);
+        let v = self.bare;
         // `fn(u8) -> u8` is a type, not a definition.
         if to == from {
-            return Measure::Nothing(self.barren_from, self.barren_to);
+            return Measure::Nothing(self.barren_from, self.barren_to, v);
         }
         if self.barren_from <= to {
             if to < self.barren_to {
-                return Measure::Nothing(self.barren_from, self.barren_to);
+                return Measure::Nothing(self.barren_from, self.barren_to, v);
             }
         }
-        let g = signature_at(s, to);
+        let g = signature_at(s, to, v);
         match g {
-            Signature::Broken(n) => Measure::Nothing(to, n),
-            Signature::Whole(b) => {
+            Signature::Broken(n, w) => Measure::Nothing(to, n, w),
+            Signature::Whole(b, w) => {
                 let end = b.end + 1;
-                Measure::Counted(found_at(s, self.line, from, to, b), end)
+                Measure::Counted(found_at(s, self.line, from, to, b), end, w)
             }
         }
     }
@@ -208,6 +228,7 @@ impl Cursor {
         let at = self.at;
         let b = s[at];
         let span = self.span_at(s);
+        let bare = self.bare;
         let c = Cursor {
             at: at + 1,
             line: search::count_after(b'\n', b, self.line),
@@ -216,6 +237,7 @@ impl Cursor {
             spanless: span.spanless,
             barren_from: self.barren_from,
             barren_to: self.barren_to,
+            bare,
         };
         if b != b'f' {
             return Turn::Past(c);
@@ -231,7 +253,7 @@ impl Cursor {
         }
         let m = self.measure(s);
         match m {
-            Measure::Nothing(from, to) => Turn::Past(Cursor {
+            Measure::Nothing(from, to, v) => Turn::Past(Cursor {
                 at: c.at,
                 line: c.line,
                 span_end: c.span_end,
@@ -239,8 +261,9 @@ impl Cursor {
                 spanless: c.spanless,
                 barren_from: from,
                 barren_to: to,
+                bare: v,
             }),
-            Measure::Counted(f, end) => Turn::Yield(
+            Measure::Counted(f, end, v) => Turn::Yield(
                 f,
                 Cursor {
                     at: c.at,
@@ -250,6 +273,7 @@ impl Cursor {
                     spanless: c.spanless,
                     barren_from: c.barren_from,
                     barren_to: c.barren_to,
+                    bare: v,
                 },
             ),
         }

@@ -48,7 +48,7 @@ abbrev pub byteBefore : List ℕ → ℕ → ℕ
 byteBefore s at = getD (0 ∷ s) at 0
 
 -- no fn stands behind a letter, digit or _
-no-fn : (prev : ℕ) (s : List ℕ) → isWord prev ≡ true → isFn prev s ≡ false
+pub no-fn : (prev : ℕ) (s : List ℕ) → isWord prev ≡ true → isFn prev s ≡ false
 unfolding isFn
 no-fn prev s e = rw (e, and-false (startsWith (ascii "fn") s))
 

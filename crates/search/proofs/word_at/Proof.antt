@@ -2,7 +2,7 @@
 -- bytes, so the place behind them can be told.
 use Prim.Native.Nat.{ℕ, _≤_}
 use mathlib.Core.Path.{_≡_, sym, _∙_, ap}
-use mathlib.Core.Bool.{Bool, true, false, not, _&&_, and-false}
+use mathlib.Core.Bool.{true, false, not}
 use mathlib.Core.List.{List, _∷_}
 use native.Mathlib.Omega.{arith}
 use borrow.Author.Needs.{needs}
@@ -14,6 +14,7 @@ use Rattle.text_rules.specs.Classes.{isWord}
 use Rattle.text_rules.specs.Search.{startsWith}
 use Rattle.text_rules.specs.StartsLaws.{starts-length}
 use Rattle.source_rules.specs.Finding.{isFn}
+use Rattle.source_rules.specs.TextScanSteps.{no-fn}
 use Rattle.search.proofs.word_at.Statement.{statement}
 use Rattle.search.proofs.word_at.Tie as tie
 
@@ -22,11 +23,10 @@ unfolding isFn
 returns c = rw (sym (c .before .begins .ensures) ∙ not-true _ (c .if1 .taken))
 
 returns-2 : tie.Need-returns-2
-unfolding isFn
 returns-2 c =
-    let w = c .before .before .byte-before .ensures in
-    let t = c .before .is-word .ensures in
-    rw (sym w, sym t ∙ c .if2 .taken, and-false)
+    let b = c .before .before .before .before .before .before .before in
+    let w : isWord (getD (0 ∷ b .args .s .now) (b .args .at) 0) ≡ true = ap isWord (sym (c .before .before .byte-before .ensures)) ∙ sym (c .before .is-word .ensures) ∙ c .if2 .taken in
+    sym (no-fn (getD (0 ∷ b .args .s .now) (b .args .at) 0) (drop (b .args .at) (b .args .s .now)) w)
 
 add-byte : tie.Need-add-byte
 add-byte c =

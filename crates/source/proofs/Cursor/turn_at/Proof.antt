@@ -10,7 +10,7 @@ use lib.ListN.{length, drop}
 use Rattle.source_rules.specs.Finding.{isFn}
 use Rattle.source_rules.specs.TextScanSteps.{byteBefore, fn-inside, other-byte}
 use Rattle.source_rules.specs.WalkSteps.{sought-in-span, sought-no-word, sought-skipped, sought-word}
-use Rattle.source.specs.Cursors.{Measures, MeasuredAt, NoneAt}
+use Rattle.source.specs.Cursors.{Measures}
 use Rattle.source.specs.Steps.{finds, passes}
 use Rattle.source.proofs.Cursor.turn_at.Statement.{statement}
 use Rattle.source.proofs.Cursor.turn_at.Tie as tie
@@ -18,83 +18,83 @@ use Rattle.source.proofs.Cursor.turn_at.Tie as tie
 returns : tie.Need-returns
 returns c =
     let k = c .before in
-    let p = k .before in
+    let p = k .before .before in
     let b = p .before .before .before in
     let s = b .args .s .now in
     let at = b .args .self .at in
     passes s (b .args .self) (b .pre .0) (b .pre .1) (p .span-at .result) (p .span-at .ensures) (k .count-after .result) (k .count-after .ensures .0)
     (sought-no-word (p .span-at .result .end - at) (b .args .self .resume - at) (byteBefore s at) (drop at s) (other-byte s at (b .pre .0) (byteBefore s at) (c .if1 .taken)))
-    (b .args .self .«barren_from») (b .args .self .«barren_to») (b .pre .1 .no-function)
+    (b .args .self .«barren_from») (b .args .self .«barren_to») (b .args .self .bare) (b .pre .1 .no-function) (b .pre .1 .vain)
 
 returns-2 : tie.Need-returns-2
 returns-2 c =
     let k = c .before .before .before in
-    let p = k .before in
+    let p = k .before .before in
     let b = p .before .before .before in
     let s = b .args .s .now in
     let at = b .args .self .at in
     passes s (b .args .self) (b .pre .0) (b .pre .1) (p .span-at .result) (p .span-at .ensures) (k .count-after .result) (k .count-after .ensures .0)
     (sought-in-span (p .span-at .result .end - at) (b .args .self .resume - at) (byteBefore s at) (drop at s) (λ z. omega arith))
-    (b .args .self .«barren_from») (b .args .self .«barren_to») (b .pre .1 .no-function)
+    (b .args .self .«barren_from») (b .args .self .«barren_to») (b .args .self .bare) (b .pre .1 .no-function) (b .pre .1 .vain)
 
 returns-3 : tie.Need-returns-3
 returns-3 c =
     let k = c .before .before .before .before .before in
-    let p = k .before in
+    let p = k .before .before in
     let b = p .before .before .before in
     let s = b .args .s .now in
     let at = b .args .self .at in
     passes s (b .args .self) (b .pre .0) (b .pre .1) (p .span-at .result) (p .span-at .ensures) (k .count-after .result) (k .count-after .ensures .0)
     (sought-skipped (p .span-at .result .end - at) (b .args .self .resume - at) (byteBefore s at) (drop at s) (λ z. omega arith))
-    (b .args .self .«barren_from») (b .args .self .«barren_to») (b .pre .1 .no-function)
+    (b .args .self .«barren_from») (b .args .self .«barren_to») (b .args .self .bare) (b .pre .1 .no-function) (b .pre .1 .vain)
 
 returns-4 : tie.Need-returns-4
 returns-4 c =
     let w = c .before in
     let k = w .before .before .before .before .before .before in
-    let p = k .before in
+    let p = k .before .before in
     let b = p .before .before .before in
     let s = b .args .s .now in
     let at = b .args .self .at in
     passes s (b .args .self) (b .pre .0) (b .pre .1) (p .span-at .result) (p .span-at .ensures) (k .count-after .result) (k .count-after .ensures .0)
     (sought-no-word (p .span-at .result .end - at) (b .args .self .resume - at) (byteBefore s at) (drop at s) (sym (w .word-at .ensures) ∙ not-true _ (c .if4 .taken)))
-    (b .args .self .«barren_from») (b .args .self .«barren_to») (b .pre .1 .no-function)
+    (b .args .self .«barren_from») (b .args .self .«barren_to») (b .args .self .bare) (b .pre .1 .no-function) (b .pre .1 .vain)
 
 measure-requires : tie.Need-measure-requires
 measure-requires c κs =
     let w = c .before in
-    let b = w .before .before .before .before .before .before .before .before .before .before in
-    (fn-inside (b .args .s .now) (b .args .self .at) (b .pre .0) _ (sym (w .word-at .ensures) ∙ not-false _ (c .if4 .left)), b .pre .1 .no-function)
+    let b = w .before .before .before .before .before .before .before .before .before .before .before in
+    (fn-inside (b .args .s .now) (b .args .self .at) (b .pre .0) _ (sym (w .word-at .ensures) ∙ not-false _ (c .if4 .left)), b .pre .1 .no-function, b .pre .1 .vain)
 
 returns-5 : tie.Need-returns-5
 returns-5 c =
     let m = c .before .before .before in
     let w = m .before .before in
     let k = w .before .before .before .before .before .before in
-    let p = k .before in
+    let p = k .before .before in
     let b = p .before .before .before in
     let s = b .args .s .now in
     let at = b .args .self .at in
     let word : isFn (byteBefore s at) (drop at s) ≡ true = sym (w .word-at .ensures) ∙ not-false _ (m .before .if4 .left) in
-    let no : NoneAt s at (c .before .m .given .0 .0) (c .before .m .given .0 .1 .0) = subst (Measures s (b .args .self)) (c .before .m .given .1) (m .measure .ensures) in
+    let (r, v) = subst (Measures s (b .args .self)) (c .before .m .given .1) (m .measure .ensures) in
     passes s (b .args .self) (b .pre .0) (b .pre .1) (p .span-at .result) (p .span-at .ensures) (k .count-after .result) (k .count-after .ensures .0)
-    (sought-word (p .span-at .result .end - at) (b .args .self .resume - at) (byteBefore s at) (drop at s) (omega arith) (omega arith) word ∙ no .not-found)
-    (c .before .m .given .0 .0) (c .before .m .given .0 .1 .0) (no .no-function)
+    (sought-word (p .span-at .result .end - at) (b .args .self .resume - at) (byteBefore s at) (drop at s) (omega arith) (omega arith) word ∙ r .not-found)
+    (c .before .m .given .0 .0) (c .before .m .given .0 .1 .0) (c .before .m .given .0 .1 .1 .0) (r .no-function) v
 
 returns-6 : tie.Need-returns-6
 returns-6 c =
     let m = c .before .before .before in
     let w = m .before .before in
     let k = w .before .before .before .before .before .before in
-    let p = k .before in
+    let p = k .before .before in
     let b = p .before .before .before in
     let s = b .args .s .now in
     let at = b .args .self .at in
     let word : isFn (byteBefore s at) (drop at s) ≡ true = sym (w .word-at .ensures) ∙ not-false _ (m .before .if4 .left) in
-    let yes : MeasuredAt s at (b .args .self .line) (c .before .m2 .given .0 .0) (c .before .m2 .given .0 .1 .0) = subst (Measures s (b .args .self)) (c .before .m2 .given .1) (m .measure .ensures) in
+    let (r, v) = subst (Measures s (b .args .self)) (c .before .m2 .given .1) (m .measure .ensures) in
     finds s (b .args .self) (b .pre .0) (b .pre .1) (p .span-at .result) (p .span-at .ensures) (k .count-after .result) (k .count-after .ensures .0)
-    (c .before .m2 .given .0 .0) (c .before .m2 .given .0 .1 .0) yes
-    (sought-word (p .span-at .result .end - at) (b .args .self .resume - at) (byteBefore s at) (drop at s) (omega arith) (omega arith) word ∙ yes .found)
+    (c .before .m2 .given .0 .0) (c .before .m2 .given .0 .1 .0) r
+    (sought-word (p .span-at .result .end - at) (b .args .self .resume - at) (byteBefore s at) (drop at s) (omega arith) (omega arith) word ∙ r .found) (c .before .m2 .given .0 .1 .1 .0) v
 
 pub turn-at-spec : {M : Type 1} → statement M
 turn-at-spec =
