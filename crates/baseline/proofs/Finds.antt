@@ -32,22 +32,22 @@ own-key line l h =
     ap₂ (λ (i b : ℕ). take i line ++ b ∷ part (m + 1) n line) z (sym (h .2)) ∙ part-joined line m n (h .0) (omega (arith, h .1))
 
 -- a line whose entry has the key, one whose entry has another, and one without an entry
-module _ (k line : List ℕ) (found : Accepted) (r : Line) (inside : Inside line r) (is : entryIn line r ≡ entryOf line) where
+module _ (k line : List ℕ) (r : Line) (inside : Inside line r) (is : entryIn line r ≡ entryOf line) where
   module _ (l : Listed) (e : r ≡ EntryOf l) where
     here : Inside line (EntryOf l)
     here = rw e at inside
 
-    read : (t : Accepted) → later found (acceptedBy (hit k (entryIn line (EntryOf l)))) ≡ t → t ≡ later found (acceptedBy (hit k (entryOf line)))
-    read t h = sym h ∙ ap (λ o. later found (acceptedBy (hit k o))) (ap (entryIn line) (sym e) ∙ is)
+    read : (t : Accepted) → acceptedBy (hit k (entryIn line (EntryOf l))) ≡ t → t ≡ acceptedBy (hit k (entryOf line))
+    read t h = sym h ∙ ap (λ o. acceptedBy (hit k o)) (ap (entryIn line) (sym e) ∙ is)
 
-    pub line-hit : same (take (l .«name_end») line) k ≡ true → Measures (record { cyclomatic = l .cyclomatic; lines = l .lines }) ≡ later found (acceptedBy (hit k (entryOf line)))
+    pub line-hit : same (take (l .«name_end») line) k ≡ true → Measures (record { cyclomatic = l .cyclomatic; lines = l .lines }) ≡ acceptedBy (hit k (entryOf line))
     line-hit t = read _ (rw (ap (λ s. same s k) (own-key line l here) ∙ t))
 
-    pub line-miss : same (take (l .«name_end») line) k ≡ false → found ≡ later found (acceptedBy (hit k (entryOf line)))
+    pub line-miss : same (take (l .«name_end») line) k ≡ false → Unlisted ≡ acceptedBy (hit k (entryOf line))
     line-miss t = read _ (rw (ap (λ s. same s k) (own-key line l here) ∙ t))
 
-  pub line-none : r ≡ Nothing → found ≡ later found (acceptedBy (hit k (entryOf line)))
-  line-none e = ap (λ o. later found (acceptedBy (hit k o))) (ap (entryIn line) (sym e) ∙ is)
+  pub line-none : r ≡ Nothing → Unlisted ≡ acceptedBy (hit k (entryOf line))
+  line-none e = ap (λ o. acceptedBy (hit k o)) (ap (entryIn line) (sym e) ∙ is)
 
 -- the first line of several, then the others
 later-none : (a : Option Entry) → a ≡ laterOf none a

@@ -246,9 +246,9 @@ pub enum Accepted {
     Unlisted,
 }
 
-// What is found up to a line and in it: the line wins, if it has the key.
-fn with_line(found: Accepted, line: &[u8], path: &[u8], name: &[u8]) -> Accepted
-    ensures { λ r. ⌜ r ≡ later found (acceptedBy (hit (keyOf (now (path .entry)) (now (name .entry))) (entryOf (now (line .entry))))) ⌝ }
+// What a line accepts of the function with this path and name.
+fn in_line(line: &[u8], path: &[u8], name: &[u8]) -> Accepted
+    ensures { λ r. ⌜ r ≡ acceptedBy (hit (keyOf (now (path .entry)) (now (name .entry))) (entryOf (now (line .entry)))) ⌝ }
 {
     match entry(line) {
         Line::Entry(e) => {
@@ -259,10 +259,20 @@ fn with_line(found: Accepted, line: &[u8], path: &[u8], name: &[u8]) -> Accepted
                     lines: e.lines,
                 })
             } else {
-                found
+                Accepted::Unlisted
             }
         }
-        Line::Nothing => found,
+        Line::Nothing => Accepted::Unlisted,
+    }
+}
+
+// Of two finds the later one wins.
+fn later(found: Accepted, next: Accepted) -> Accepted
+    ensures { λ r. ⌜ r ≡ later found next ⌝ }
+{
+    match next {
+        Accepted::Measures(m) => Accepted::Measures(m),
+        Accepted::Unlisted => found,
     }
 }
 
@@ -275,7 +285,8 @@ pub fn lookup(baseline: &[u8], path: &[u8], name: &[u8]) -> Accepted
     while from < baseline.len() {
         let end = line_end(baseline, from);
         let to = trimmed_end(baseline, from, end);
-        found = with_line(found, &baseline[from..to], path, name);
+        let here = in_line(&baseline[from..to], path, name);
+        found = later(found, here);
         from = end + 1;
     }
     found

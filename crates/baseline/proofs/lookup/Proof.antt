@@ -6,7 +6,7 @@ use lib.ListN.{length}
 use borrow.Author.Needs.{needs}
 use Rattle.gate_rules.specs.Baseline.{entriesOfLines, lookup}
 use Rattle.gate_rules.specs.Functions.{keyOf}
-use Rattle.baseline.specs.Reads.{acceptedBy}
+use Rattle.baseline.specs.Reads.{acceptedBy, later}
 use Rattle.baseline.proofs.Finds.{found-end, found-next, found-start, foundFrom}
 use Rattle.baseline.proofs.lookup.Statement.{statement}
 use Rattle.baseline.proofs.lookup.Tie as tie
@@ -23,15 +23,16 @@ loop-holds c = let a = c .before .before .before .args in found-start (keyOf (a 
 
 loop-again : tie.Need-loop-again Inv-loop μ-loop
 loop-again c =
-    let trim = c .before .before in
-    let line = trim .before in
-    let l = line .before .before in
+    let line = c .before in
+    let trim = line .before .before in
+    let ends = trim .before in
+    let l = ends .before .before in
     let a = l .before .before .before .before .args in
     let k = keyOf (a .path .now) (a .name .now) in
     let s = a .baseline .now in
-    let end = line .line-end .result in
-    ap (λ f. foundFrom f k s (end + 1)) (c .with-line .ensures)
-    ∙ found-next (l .loop .found) k s (l .loop .from) end (trim .trimmed-end .result) (line .line-end .ensures .0) (trim .trimmed-end .ensures .0)
+    let end = ends .line-end .result in
+    ap (λ f. foundFrom f k s (end + 1)) (c .later .ensures ∙ ap (later (l .loop .found)) (line .in-line .ensures))
+    ∙ found-next (l .loop .found) k s (l .loop .from) end (trim .trimmed-end .result) (ends .line-end .ensures .0) (trim .trimmed-end .ensures .0)
     ∙ l .loop .inv
 
 returns : tie.Need-returns Inv-loop μ-loop
@@ -44,4 +45,4 @@ pub lookup-spec : {M : Type 1} → statement M
 lookup-spec =
     tie.close
     (tie.spec Inv-loop μ-loop loop-holds (λ c κs. search needs) (λ c κs. search needs) (λ c. search needs) (λ c. search needs) (λ c. search needs)
-    (λ c κs. search needs) (λ c. search needs) (λ c. search needs) loop-again returns)
+    (λ c κs. search needs) (λ c κs. search needs) (λ c. search needs) (λ c. search needs) loop-again returns)
