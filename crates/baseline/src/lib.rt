@@ -166,12 +166,15 @@ fn measured(line: &[u8], a: usize, b: usize, c: usize, d: usize) -> Line
     let second = number(&line[c + 1..d], MAX_U64);
     match first {
         Numeral::Value(m) => match second {
-            Numeral::Value(n) => Line::Entry(Listed {
-                path_end: a,
-                name_end: b,
-                cyclomatic: m as u32,
-                lines: n,
-            }),
+            Numeral::Value(n) => {
+                let cyclomatic = m as u32;
+                Line::Entry(Listed {
+                    path_end: a,
+                    name_end: b,
+                    cyclomatic,
+                    lines: n,
+                })
+            }
             Numeral::Bad => Line::Nothing,
         },
         Numeral::Bad => Line::Nothing,

@@ -7,8 +7,8 @@ use Rattle.baseline.proofs.Fields.{both-read, first-bad, second-bad, wa
 use Rattle.baseline.proofs.measured.Statement.{statement}
 use Rattle.baseline.proofs.measured.Tie as tie
 
-cast-t20 : tie.Need-cast-t20
-cast-t20 c =
+cast-cyclomatic : tie.Need-cast-cyclomatic
+cast-cyclomatic c =
     let f = c .before .before .before .before in
     let second = f .before .before in
     let first = second .before .before in
@@ -43,5 +43,5 @@ pub measured-spec : {M : Type 1} → statement M
 measured-spec =
     tie.close
     (tie.spec (λ c. search needs) (λ c. search needs) (λ c. search needs) (λ c. search needs) (λ c κs. search needs) (λ c. search needs) (λ c. search needs)
-    (λ c. search needs) (λ c. search needs) (λ c κs. search needs) (λ c. search needs) (λ c. search needs) cast-t20 (λ c. search needs) (λ c. search needs)
+    (λ c. search needs) (λ c. search needs) (λ c κs. search needs) (λ c. search needs) (λ c. search needs) cast-cyclomatic (λ c. search needs) (λ c. search needs)
     returns returns-2 returns-3)
