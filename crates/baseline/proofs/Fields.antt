@@ -2,10 +2,8 @@
 use Prim.Native.Nat.{ℕ, _+_, _≤_, _<_}
 use mathlib.Core.Path.{_≡_, refl, ap, ap₂, sym, _∙_}
 use mathlib.Core.Logic.{inl, inr}
-use mathlib.Core.Bool.{true, false}
 use mathlib.Core.List.{List, [], _∷_}
 use mathlib.Core.Option.{Option, none, some}
-use native.Mathlib.Omega.{arith}
 use lib.Dec.{eqb, ltb}
 use lib.ListN.{length, drop, getD}
 use borrow.Author.Tests.{eq-eqb, ltb-false, ltb-true, ne-eqb}
@@ -14,7 +12,7 @@ use Rattle.text_rules.specs.Decimal.{parseNumber}
 use Rattle.text_rules.specs.LineForms.{piece-last, piece-next}
 use Rattle.text_rules.specs.Lines.{fields, split}
 use Rattle.text_rules.specs.Search.{bytesBefore, part}
-use Rattle.gate_rules.specs.Baseline.{Entry, entryOf, entryOfFields, entryWith}
+use Rattle.gate_rules.specs.Baseline.{entryOf, entryOfFields, entryWith}
 use Rattle.gate_rules.specs.Functions.{isComment}
 use Rattle.baseline.specs.Reads.{numberOf}
 use Rattle.baseline.specs.declared.Numeral.{Numeral}

@@ -1,5 +1,5 @@
 -- What is found in a line, and in the lines from a place on.
-use Prim.Native.Nat.{ℕ, _+_, _-_, _≤_, _<_}
+use Prim.Native.Nat.{ℕ, _+_, _-_, _≤_}
 use mathlib.Core.Path.{_≡_, refl, ap, ap₂, sym, _∙_}
 use mathlib.Core.Logic.{inl, inr}
 use mathlib.Core.Bool.{true, false}
@@ -7,9 +7,9 @@ use mathlib.Core.List.{List, [], _∷_, _++_, map}
 use mathlib.Core.Option.{Option, none, some}
 use native.Mathlib.Omega.{arith}
 use lib.Dec.{ltb}
-use lib.ListN.{length, take, drop, getD, drop-of-length-le}
+use lib.ListN.{length, take, drop, drop-of-length-le}
 use borrow.Author.Tests.{ltb-false, ltb-true}
-use Rattle.text_rules.specs.Bytes.{if_then_else_, present, same}
+use Rattle.text_rules.specs.Bytes.{present, same}
 use Rattle.text_rules.specs.BytesLaws.{whether}
 use Rattle.text_rules.specs.LineForms.{line-last, line-next, part-joined}
 use Rattle.text_rules.specs.Lines.{ended, fields, linesIn, split, withoutCR}

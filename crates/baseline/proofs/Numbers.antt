@@ -1,11 +1,11 @@
 -- A number as a loop reads it: the digits behind stand for n, those ahead go on from it.
-use Prim.Native.Nat.{ℕ, suc, _+_, _*_, _-_, _≤_, _<_}
+use Prim.Native.Nat.{ℕ, _+_, _*_, _-_, _≤_, _<_}
 use mathlib.Core.Path.{_≡_, refl, ap, sym, _∙_}
 use mathlib.Core.Bool.{Bool, true, false, _&&_}
 use mathlib.Core.List.{List, [], _∷_}
 use mathlib.Core.Option.{Option, none, some}
 use native.Mathlib.Omega.{arith}
-use lib.Dec.{eqb, leb}
+use lib.Dec.{leb}
 use lib.ListN.{length, drop, getD, drop-of-length-le}
 use borrow.Author.Tests.{eq-eqb, le-leb, leb-true, lt-leb, ne-eqb}
 use mathlib.Core.Logic.{inl, inr}

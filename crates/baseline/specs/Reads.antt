@@ -14,7 +14,6 @@ use Rattle.baseline.specs.declared.Accepted.{Accepted}
 use Rattle.baseline.specs.declared.Accepted.the-variants.{Measures, Unlisted}
 use Rattle.baseline.specs.declared.Line.{Line}
 use Rattle.baseline.specs.declared.Line.the-variants.{Entry as EntryOf, Nothing}
-use Rattle.baseline.specs.declared.Listed.{Listed}
 use Rattle.baseline.specs.declared.Numeral.{Numeral}
 use Rattle.baseline.specs.declared.Numeral.the-variants.{Bad, Value}
 

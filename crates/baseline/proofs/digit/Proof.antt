@@ -1,5 +1,4 @@
 -- `baseline::digit` meets its contract: a digit is at least `0`.
-use native.Mathlib.Omega.{arith}
 use borrow.Author.Needs.{needs}
 use Rattle.baseline.proofs.Numbers.{digit-least}
 use Rattle.baseline.proofs.digit.Statement.{statement}

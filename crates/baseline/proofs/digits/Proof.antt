@@ -1,8 +1,8 @@
 -- `baseline::digits` meets its contract: the digits ahead go on from the number that those behind made.
-use Prim.Native.Nat.{_+_, _*_, _-_, _≤_, _<_}
+use Prim.Native.Nat.{_+_, _*_, _-_, _≤_}
 use mathlib.Core.Path.{_≡_, sym, _∙_}
 use native.Mathlib.Omega.{arith}
-use lib.ListN.{length, drop, getD}
+use lib.ListN.{length, drop}
 use borrow.Author.Needs.{needs}
 use borrow.Author.Tests.{leb-false, leb-true, not-false, not-true}
 use Rattle.text_rules.specs.Decimal.{numeral}

@@ -2,7 +2,6 @@
 use Prim.Native.Nat.{_+_, _*_, _-_}
 use mathlib.Core.Path.{sym}
 use native.Mathlib.Omega.{arith}
-use lib.Dec.{leb}
 use borrow.Author.Needs.{needs}
 use borrow.Author.Tests.{lt-leb}
 use Rattle.baseline.proofs.Numbers.{leb-same}

@@ -1,7 +1,7 @@
 -- `baseline::is_key` meets its contract: a key has the path, then a tab, then the name, at the places that the path's length gives.
+use Prim.Native.Nat.{_+_}
 use mathlib.Core.Path.{ap, sym, _∙_}
 use native.Mathlib.Omega.{arith}
-use Prim.Native.Nat.{_+_}
 use lib.ListN.{length}
 use lib.Seq.{length-take-le}
 use borrow.Author.Needs.{needs}

@@ -1,7 +1,6 @@
 -- `baseline::lookup` meets its contract: what is found in the lines behind, then what is found in the rest, is what is found in all.
 use Prim.Native.Nat.{_+_, _-_}
 use mathlib.Core.Path.{_≡_, ap, sym, _∙_}
-use native.Mathlib.Omega.{arith}
 use lib.ListN.{length}
 use borrow.Author.Needs.{needs}
 use Rattle.gate_rules.specs.Baseline.{entriesOfLines, lookup}

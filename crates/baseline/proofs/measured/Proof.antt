@@ -1,5 +1,4 @@
 -- `baseline::measured` meets its contract: an entry is there exactly if both numbers are read, and the first is within u32.
-use mathlib.Core.Path.{_∙_}
 use native.Mathlib.Omega.{arith}
 use borrow.Author.Needs.{needs}
 use Rattle.text_rules.specs.DecimalLaws.{number-read}

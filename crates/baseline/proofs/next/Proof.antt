@@ -1,14 +1,13 @@
 -- `baseline::next` meets its contract: the place, and the bytes before the next `x` that are ahead of it, stay together what they were.
-use Prim.Native.Nat.{_≤_, _+_, _-_}
+use Prim.Native.Nat.{ℕ, _+_, _-_, _≤_}
 use mathlib.Core.Path.{_≡_, refl}
+use mathlib.Core.Bool.{not}
 use native.Mathlib.Omega.{arith}
 use lib.Dec.{eqb}
 use lib.ListN.{length, drop}
 use borrow.Author.Needs.{needs}
 use Rattle.text_rules.specs.Search.{bytesBefore}
 use Rattle.text_rules.specs.ScanLaws.{bytesBefore-more, bytesBefore-stop, run-end}
-use mathlib.Core.Bool.{not}
-use Prim.Native.Nat.{ℕ}
 use Rattle.baseline.proofs.next.Statement.{statement}
 use Rattle.baseline.proofs.next.Tie as tie
 

@@ -1,6 +1,5 @@
 -- `baseline::trimmed_end` meets its contract: only a line that an LF ends, and that has a byte, can lose its last one.
-use Prim.Native.Nat.{_-_}
-use mathlib.Core.Path.{sym, _∙_, refl}
+use mathlib.Core.Path.{sym}
 use native.Mathlib.Omega.{arith}
 use lib.ListN.{length}
 use borrow.Author.Needs.{needs}
