@@ -11,13 +11,14 @@ use borrow.Author.Tests.{eqb-false, eqb-true}
 use Rattle.text_rules.specs.Answer.{answerAt}
 use Rattle.text_rules.specs.Bytes.{All, joined, overwritten, putAt}
 use Rattle.text_rules.specs.BytesLaws.{All-append, All-map, whether}
+use Rattle.text_rules.specs.PutLaws.{put-length}
 use Rattle.text_rules.specs.U32.{u32Bytes}
 use Rattle.source_rules.specs.Blank.{blanked}
 use Rattle.source_rules.specs.BlankCall.{blankCall, blankNumber, blankOutput}
 use Rattle.source_rules.specs.BlankLaws.{blanked-length}
 use Rattle.source_rules.specs.TextScan.{TextFun, functions}
 use Rattle.gate_rules.specs.Baseline.{Entry, entries}
-use Rattle.gate_rules.specs.BufferLaws.{blank-length, put-length}
+use Rattle.gate_rules.specs.BufferLaws.{blank-length}
 use Rattle.gate_rules.specs.CallLaws.{checked-number, updated-number}
 use Rattle.gate_rules.specs.Calls.{checkAnswer, checkCall, checkNumber, outputAfter, recordsAfter, room, scanCall, scanNumber, updateAnswer, updateCall, updateNumber, workAfter}
 use Rattle.gate_rules.specs.Check.{listing, regressions, stale}

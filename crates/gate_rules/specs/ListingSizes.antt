@@ -207,9 +207,9 @@ number-length width n h k = justified-length width (decimal n) h (decimal-length
 row-most : Fun → ℕ
 row-most f = 1082 + length (f .name)
 
-report-row : (f : Fun) → Sized f → length (reportRow f) ≤ row-most f
+row-length : (f : Fun) → Sized f → length (reportRow f) ≤ row-most f
 unfolding reportRow row-most
-report-row f s =
+row-length f s =
     simp length-append
     (omega (
       arith,
@@ -220,10 +220,10 @@ report-row f s =
       number-length 6 (f .params) (omega arith) (s .params-u32),
     ))
 
-report-rows : (fs : List Fun) → All Sized fs → length (reportRows fs) ≤ total row-most fs
+rows-length : (fs : List Fun) → All Sized fs → length (reportRows fs) ≤ total row-most fs
 unfolding reportRows
-report-rows [] h = omega arith
-report-rows (f ∷ fs) h = simp length-append (omega (arith, report-row f (h .0), report-rows fs (h .1)))
+rows-length [] h = omega arith
+rows-length (f ∷ fs) h = simp length-append (omega (arith, row-length f (h .0), rows-length fs (h .1)))
 
 -- the rows of the heaviest files, of which there are at most ten
 weight-rows : (tree : List ℕ) → length tree ≤ 16777216 → (ws : List Weight) → All (Weighed tree) ws → length (weightRows ws) ≤ 1037 * length ws
@@ -260,7 +260,7 @@ module _ (L : Limits) where
       let over′ : All Sized (overLimit L fs) = All-map _ Sized (λ f h. h .0) (overLimit L fs) (kept-all (over L) Sized fs sized) in
       omega (
         arith,
-        report-rows (sort worse (overLimit L fs)) (sort-all worse Sized (overLimit L fs) over′),
+        rows-length (sort worse (overLimit L fs)) (sort-all worse Sized (overLimit L fs) over′),
         sort-total worse row-most (overLimit L fs),
         kept-total (over L) row-most fs,
         total-both (λ f. 1082) (λ f. length (f .name)) fs,

@@ -24,11 +24,11 @@ placedSources number running [] = []
 placedSources number running (f ∷ fs) = placedSource number running f ∷ placedSources (suc number) (placeAfter running f) fs
 
 -- the four numbers of an entry
-pub record EntryRead (tree : List ℕ) (entry running : ℕ) (f : InputFile) : Type 0 where
-  pub path-at : pathOffset tree entry ≡ running
-  pub path-size : pathLength tree entry ≡ length (f .path)
-  pub text-at : textOffset tree entry ≡ running + length (f .path)
-  pub text-size : textLength tree entry ≡ length (f .text)
+record EntryRead (tree : List ℕ) (entry running : ℕ) (f : InputFile) : Type 0 where
+  path-at : pathOffset tree entry ≡ running
+  path-size : pathLength tree entry ≡ length (f .path)
+  text-at : textOffset tree entry ≡ running + length (f .path)
+  text-size : textLength tree entry ≡ length (f .text)
 
 entry-read : (running : ℕ) (f : InputFile) (rest : List ℕ) → placeAfter running f < 4294967296 → EntryRead (packedEntry running f ++ rest) 0 running f
 unfolding packedEntry u32At u32Bytes

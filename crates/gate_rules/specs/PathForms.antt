@@ -3,13 +3,17 @@ use Prim.Native.Nat.{ℕ, suc, _+_, _<_, _≤_}
 use mathlib.Core.Path.{_≡_, refl, ap, ap₂, _∙_}
 use mathlib.Core.Bool.{true, false, _&&_, _||_}
 use mathlib.Core.List.{List, [], _∷_}
+use native.Mathlib.Omega.{arith}
 use native.Mathlib.Numerals.{add-one}
 use borrow.Author.Tests.{eq-eqb, le-ltb, lt-ltb, ne-eqb}
 use lib.Dec.{eqb, ltb}
 use lib.ListN.{length, drop, getD, drop-of-length-le}
 use lib.Seq.{drop-cons}
+use Rattle.text_rules.specs.Classes.{lf, slash, tab}
 use Rattle.text_rules.specs.Search.{has}
-use Rattle.gate_rules.specs.Tree.{pathBefore, rank}
+use Rattle.text_rules.specs.Utf8.{isUtf8}
+use Rattle.gate_rules.specs.Functions.{isComment}
+use Rattle.gate_rules.specs.Tree.{isPath, pathBefore, rank}
 
 module _ (s : List ℕ) (at : ℕ) where
   pub has-step : (x : ℕ) → at < length s → has x (drop at s) ≡ (eqb (getD s at 0) x || has x (drop (at + 1) s))
@@ -38,6 +42,47 @@ module _ (p q : List ℕ) (at : ℕ) where
       none-before : (r : List ℕ) → pathBefore r [] ≡ false
       none-before [] = refl
       none-before (b ∷ r) = refl
+
+-- the first byte, if there is one
+pub comment-none : (s : List ℕ) → length s ≡ 0 → isComment s ≡ false
+unfolding isComment
+comment-none [] h = refl
+comment-none (b ∷ s) h = absurd (omega arith)
+
+pub comment-first : (s : List ℕ) → (length s ≡ 0 → ⊥) → isComment s ≡ eqb (getD s 0 0) 35
+unfolding isComment
+comment-first [] h = absurd (h refl)
+comment-first (b ∷ s) h = refl
+
+-- the order of a byte
+module _ (b : ℕ) where
+  pub rank-slash : b ≡ slash → rank b ≡ 0
+  unfolding rank
+  rank-slash e = rw (eq-eqb b slash e)
+
+  pub rank-other : (b ≡ slash → ⊥) → rank b ≡ b + 1
+  unfolding rank
+  rank-other n = rw (ne-eqb b slash n, add-one b)
+
+-- the ways that code goes through the tests of a path
+module _ (path : List ℕ) where
+  pub path-tab : has tab path ≡ true → isPath path ≡ false
+  unfolding isPath
+  path-tab t = rw t
+
+  module _ (e₁ : has tab path ≡ false) where
+    pub path-lf : has lf path ≡ true → isPath path ≡ false
+    unfolding isPath
+    path-lf t = rw (e₁, t)
+
+    module _ (e₂ : has lf path ≡ false) where
+      pub path-comment : isComment path ≡ true → isPath path ≡ false
+      unfolding isPath
+      path-comment t = rw (e₁, e₂, t)
+
+      pub path-last : isComment path ≡ false → isPath path ≡ isUtf8 path
+      unfolding isPath
+      path-last t = rw (e₁, e₂, t)
 
 -- the ways that code goes through a step
 module _ (s : List ℕ) (at x : ℕ) (h : at < length s) where

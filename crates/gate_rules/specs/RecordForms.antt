@@ -47,6 +47,16 @@ put-here : (number : ℕ) (r buffer : List ℕ) → ltb number (room buffer) ≡
 unfolding putRecord
 put-here number r buffer e = rw e
 
+-- the ways that code goes: there is room, or there is none
+pub put-room : (number at : ℕ) (r buffer : List ℕ) → number < room buffer → at ≡ number * recordWidth → putAt at r buffer ≡ putRecord number r buffer
+put-room number at r buffer h e =
+    let d : at ≡ recordWidth * number = omega arith in
+    ap (λ i. putAt i r buffer) d ∙ sym (put-here number r buffer (lt-ltb number (room buffer) h))
+
+pub put-full : (number : ℕ) (r buffer : List ℕ) → room buffer ≤ number → buffer ≡ putRecord number r buffer
+unfolding putRecord
+put-full number r buffer h = rw (le-ltb number (room buffer) h)
+
 -- where there is no room, nothing is put
 beyond : (number : ℕ) (rs : List (List ℕ)) (buffer : List ℕ) → room buffer ≤ number → putRecords number rs buffer ≡ buffer
 unfolding putRecords putRecord

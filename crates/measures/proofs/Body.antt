@@ -1,8 +1,8 @@
 -- A body: one step of its depth and lines, its pieces, and the jump over a piece.
 use Prim.Native.Nat.{ℕ, suc, pred, _+_, _-_, _≤_, _<_, max}
-use mathlib.Core.Path.{_≡_, ap, sym, _∙_}
+use mathlib.Core.Path.{_≡_, refl, ap, sym, _∙_}
 use mathlib.Core.Logic.{_≢_}
-use mathlib.Core.Bool.{true, false}
+use mathlib.Core.Bool.{true, false, _||_, or-false}
 use mathlib.Core.List.{List, [], _∷_}
 use native.Mathlib.Numerals.{add-one, sub-one}
 use native.Mathlib.Omega.{arith}
@@ -10,15 +10,15 @@ use lib.Dec.{eqb}
 use lib.ListN.{drop, getD, length, length-drop}
 use lib.Seq.{drop-drop, getD-drop}
 use borrow.Author.Tests.{eq-eqb, ne-eqb}
-use Rattle.text_rules.specs.Bytes.{among, ascii, if_then_else_}
-use Rattle.text_rules.specs.Classes.{braceClose, braceOpen, isLetter, isWord, lf, question}
+use Rattle.text_rules.specs.Bytes.{among, ascii, if_then_else_, same}
+use Rattle.text_rules.specs.Classes.{ampersand, angleClose, bar, braceClose, braceOpen, equals, isLetter, isWord, lf, question}
+use Rattle.text_rules.specs.ScanLaws.{head-at, split}
 use Rattle.text_rules.specs.Search.{countAfter, opens, part, run}
 use Rattle.source_rules.specs.Brackets.{depthAfter}
 use Rattle.source_rules.specs.BracketsLaws.{depth-close, depth-open, depth-other}
 use Rattle.source_rules.specs.Measures.{cyclomaticFrom, decides, deepest, isPair, lineAt, pieceLength}
 use Rattle.source_rules.specs.PieceLaws.{cyclomatic-skipLeft, piece-inside}
 use Rattle.source_rules.specs.WalkSteps.{cyclomatic-step, deepest-step, line-step}
-use Rattle.measures.proofs.Places.{head-at, split}
 
 module _ (s : List ℕ) (at : ℕ) (h : at < length s) where
   abbrev b : ℕ
@@ -71,6 +71,39 @@ module _ (s : List ℕ) (at : ℕ) (h : at < length s) where
 
     pub cyclomatic-same : decides (drop at s) ≡ false → cyclomaticFrom n 0 (drop at s) ≡ cyclomaticFrom n 0 (drop (at + pieceLength (drop at s)) s)
     cyclomatic-same e = cyclomatic-jump n ∙ rw e
+
+-- the words that decide, tried one after another
+module _ (w : List ℕ) where
+  abbrev words : List (List ℕ)
+  words = ascii "if" ∷ ascii "while" ∷ ascii "for" ∷ ascii "loop" ∷ []
+
+  pub word-if : same (ascii "if") w ≡ true → among w words ≡ true
+  word-if t = rw t
+
+  module _ (n1 : same (ascii "if") w ≡ false) where
+    pub word-while : same (ascii "while") w ≡ true → among w words ≡ true
+    word-while t = rw (n1, t)
+
+    module _ (n2 : same (ascii "while") w ≡ false) where
+      pub word-for : same (ascii "for") w ≡ true → among w words ≡ true
+      word-for t = rw (n1, n2, t)
+
+      pub word-loop : same (ascii "for") w ≡ false → among w words ≡ same (ascii "loop") w
+      word-loop n3 = rw (n1, n2, n3) (or-false (same (ascii "loop") w))
+
+-- a pair whose first byte is known
+module _ (c : ℕ) where
+  pub pair-and : isPair (ampersand ∷ c ∷ []) ≡ eqb c ampersand
+  unfolding isPair opens
+  pair-and = or-false (eqb c ampersand || false) ∙ or-false (eqb c ampersand)
+
+  pub pair-or : isPair (bar ∷ c ∷ []) ≡ eqb c bar
+  unfolding isPair opens
+  pair-or = or-false (eqb c bar)
+
+  pub pair-arrow : isPair (equals ∷ c ∷ []) ≡ eqb c angleClose
+  unfolding isPair opens
+  pair-arrow = refl
 
 module _ (s : List ℕ) (at : ℕ) where
   pub pair-at : isPair (drop at s) ≡ isPair (getD s at 0 ∷ getD s (at + 1) 0 ∷ [])

@@ -1,4 +1,3 @@
 -- Laws that the proofs of several functions cite.
-mod Places
 mod List
 mod Body

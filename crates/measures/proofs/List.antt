@@ -12,12 +12,12 @@ use borrow.Author.Tests.{eq-eqb, eqb-true, ne-eqb}
 use Rattle.text_rules.specs.Bytes.{ascii}
 use Rattle.text_rules.specs.BytesLaws.{or-cases}
 use Rattle.text_rules.specs.Classes.{ampersand, comma, space}
+use Rattle.text_rules.specs.ScanLaws.{split}
 use Rattle.text_rules.specs.Search.{endsIn, part, run, startsWith}
 use Rattle.text_rules.specs.WhiteSpace.{textEnd, trimmed, whiteEnd}
 use Rattle.source_rules.specs.Parameters.{counted, isClosing, isOpening, one, paramsOf, partsFrom, squeezed, takesSelf}
 use Rattle.source_rules.specs.WalkSteps.{parts-step}
 use Rattle.measures.specs.Walks.{head}
-use Rattle.measures.proofs.Places.{split}
 
 -- a bracket is no comma, and an opening one does not close
 opening-only : (b : ℕ) → isOpening b ≡ true → (eqb b comma ≡ false) × (isClosing b ≡ false)
@@ -92,26 +92,6 @@ module _ (s : List ℕ) (at : ℕ) where
 
       pub head-keeps : (eqb (getD s at 0) ampersand || eqb (getD s at 0) space) ≡ false → head (drop at s) ≡ getD s at 0 ∷ head (drop (at + 1) s)
       head-keeps t = ap head (split s at h) ∙ keeps (getD s at 0) (drop (at + 1) s) (ne-eqb _ _ n) t
-
--- a word from its byte i on, as the beginning of a text
-module _ (word : List ℕ) (i : ℕ) where
-  pub begins-end : (t : List ℕ) → length word ≤ i → startsWith (drop i word) t ≡ true
-  unfolding startsWith
-  begins-end t h = rw (drop-of-length-le word h)
-
-  module _ (h : i < length word) (t : List ℕ) where
-    pub begins-none : t ≡ [] → startsWith (drop i word) t ≡ false
-    unfolding startsWith
-    begins-none e = rw (e, split word i h)
-
-    module _ (b : ℕ) (r : List ℕ) (e : t ≡ b ∷ r) where
-      pub begins-stop : b ≢ getD word i 0 → startsWith (drop i word) t ≡ false
-      unfolding startsWith
-      begins-stop n = rw (e, split word i h, ne-eqb b (getD word i 0) n)
-
-      pub begins-more : b ≡ getD word i 0 → startsWith (drop i word) t ≡ startsWith (drop (i + 1) word) r
-      unfolding startsWith
-      begins-more q = rw (e, split word i h, eq-eqb b (getD word i 0) q)
 
 -- self is one of two words
 module _ (s : List ℕ) where

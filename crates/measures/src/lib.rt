@@ -1,4 +1,6 @@
 // What is measured of a function: the parameters of its list, and the cyclomatic number, the nesting and the lines of its body.
+// A list is counted between its first and its last byte that are not of white space. A body is walked twice: byte by byte for nesting and lines,
+// and by whole pieces for the cyclomatic number, so that `iffy` is not read as `if`.
 ghost use mathlib.Core.Path.{_≡_};
 ghost use mathlib.Core.Bool.{_||_};
 ghost use mathlib.Core.List.{[], _∷_};
@@ -6,8 +8,8 @@ ghost use Prim.Native.Nat.{_+_, _-_, _≤_, _<_, max};
 ghost use lib.Dec.{eqb};
 ghost use lib.ListN.{length, drop};
 ghost use Rattle.text_rules.specs.Bytes.{among, ascii, same};
-ghost use Rattle.text_rules.specs.Classes.{isWord};
-ghost use Rattle.text_rules.specs.Search.{run, startsWith};
+ghost use Rattle.text_rules.specs.Classes.{comma, isWord};
+ghost use Rattle.text_rules.specs.Search.{endsIn, run, startsWith};
 ghost use Rattle.source_rules.specs.Measures.{cyclomaticOf, isPair};
 ghost use Rattle.source_rules.specs.Parameters.{counted, isClosing, isOpening, one, paramsOf, partsFrom, takesSelf};
 ghost use Rattle.measures.specs.Walks.{Measured, PieceAt, Shaped, head};
@@ -32,6 +34,7 @@ fn one_of(b: u8, x: u8, y: u8, z: u8) -> bool
     b == z
 }
 
+// The three kinds of brackets that are counted together.
 fn is_opening(b: u8) -> bool
     ensures { λ r. ⌜ r ≡ isOpening b ⌝ }
 {
@@ -93,6 +96,7 @@ fn head_begins(s: &[u8], word: &[u8]) -> bool
     true
 }
 
+// Whether the first part is self; `selfish: u8` counts as self.
 fn takes_self(s: &[u8]) -> bool
     ensures { λ r. ⌜ r ≡ takesSelf (now (s .entry)) ⌝ }
 {
@@ -112,13 +116,20 @@ fn less_one(n: usize, test: bool) -> usize
     if n == 0 { 0 } else { n - 1 }
 }
 
-// The parameters of a list that begins and ends with no white space.
+// Whether the last byte is a comma.
+fn ends_in_comma(s: &[u8]) -> bool
+    requires { ⌜ 0 < length (now s) ⌝ }
+    ensures { λ r. ⌜ r ≡ endsIn comma (now (s .entry)) ⌝ }
+{
+    s[s.len() - 1] == b','
+}
+
+// The parameters of a list that begins and ends with no white space: its parts, without the one behind a last comma and without self.
 fn count_trimmed(s: &[u8]) -> usize
     requires { ⌜ 0 < length (now s) ⌝ }
     ensures { λ r. ⌜ r ≡ counted (now (s .entry)) ⌝ }
 {
-    let trailing = s[s.len() - 1] == b',';
-    less_one(less_one(parts(s), trailing), takes_self(s))
+    less_one(less_one(parts(s), ends_in_comma(s)), takes_self(s))
 }
 
 // The parameters of the text between the brackets, without self.
@@ -133,7 +144,6 @@ pub fn count_params(inner: &[u8]) -> usize
     count_trimmed(&inner[from..to])
 }
 
-// The nesting and the lines of a body.
 struct Shape {
     nesting: usize,
     lines: usize,
@@ -232,7 +242,7 @@ fn is_pair(b: u8, c: u8) -> bool
     false
 }
 
-// A piece of a body: a word, a pair, or one byte. It ends before `end`.
+// A piece of a body: a word, a pair, or one byte, up to `end`.
 struct Piece {
     end: usize,
     decides: bool,
@@ -279,13 +289,13 @@ fn cyclomatic(body: &[u8]) -> usize
     n
 }
 
-// What is measured of a body.
 pub struct Walked {
     pub cyclomatic: usize,
     pub nesting: usize,
     pub lines: usize,
 }
 
+// The measures of a body.
 pub fn walk(body: &[u8]) -> Walked
     ensures { λ r. ⌜ Measured r (now (body .entry)) ⌝ }
 {

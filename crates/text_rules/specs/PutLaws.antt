@@ -5,7 +5,7 @@ use mathlib.Core.List.{List, _++_, append-assoc}
 use native.Mathlib.Omega.{arith}
 use lib.ListN.{length, take, drop, length-append, length-drop}
 use lib.Seq.{drop-append-add, drop-drop, length-take-le, take-append-seam}
-use Rattle.text_rules.specs.Bytes.{putAt}
+use Rattle.text_rules.specs.Bytes.{kept, putAt}
 
 pub put-length : (at : ℕ) (xs s : List ℕ) → at + length xs ≤ length s → length (putAt at xs s) ≡ length s
 put-length at xs s h = simp (length-append, length-drop) (omega (arith, length-take-le at s (omega arith)))

@@ -1,12 +1,17 @@
 // The tree file: its layout, its paths and its texts, and the refusals 1 to 4.
 ghost use mathlib.Core.Path.{_≡_};
+ghost use mathlib.Core.Bool.{true, _&&_};
+ghost use mathlib.Core.List.{[]};
 ghost use Prim.Native.Nat.{_+_, _<_, _≤_};
 ghost use lib.ListN.{length};
 ghost use Rattle.text_rules.specs.U32.{u32At};
 ghost use Rattle.text_rules.specs.Search.{has};
-ghost use Rattle.gate_rules.specs.Tree.{entryFits, isLaidOut, pathBefore, rank};
+ghost use Rattle.gate_rules.specs.Functions.{isComment};
+ghost use Rattle.gate_rules.specs.Tree.{entryAt, entryFits, fileCount, isLaidOut, isPath, pathBefore, pathLength, pathOffset, pathsRise, rank, sources, textLength, textOffset, textsGood, treeRefusal};
 
-// Limits of the layout.
+// The bytes of a tree, the files of a tree, and the bytes of a path.
+pub const MAX_TREE: usize = 16777216;
+
 pub const MAX_FILES: usize = 1024;
 
 pub const MAX_PATH: usize = 1024;
@@ -114,4 +119,152 @@ fn path_before(p: &[u8], q: &[u8]) -> bool
         i += 1;
     }
     false
+}
+
+// The first byte is #.
+fn is_comment(s: &[u8]) -> bool
+    ensures { λ r. ⌜ r ≡ isComment (now (s .entry)) ⌝ }
+{
+    if s.len() == 0 {
+        return false;
+    }
+    s[0] == b'#'
+}
+
+// A path has no tab and no LF, does not start with #, and is UTF-8.
+fn is_path(path: &[u8]) -> bool
+    ensures { λ r. ⌜ r ≡ isPath (now (path .entry)) ⌝ }
+{
+    if has_byte(path, b'\t') {
+        return false;
+    }
+    if has_byte(path, b'\n') {
+        return false;
+    }
+    if is_comment(path) {
+        return false;
+    }
+    utf8::is_utf8(path)
+}
+
+// A path is good and stands behind the last one.
+fn next_path(last: &[u8], path: &[u8]) -> bool
+    ensures { λ r. ⌜ r ≡ (isPath (now (path .entry)) && pathBefore (now (last .entry)) (now (path .entry))) ⌝ }
+{
+    if is_path(path) {
+        path_before(last, path)
+    } else {
+        false
+    }
+}
+
+// The number of files.
+pub fn file_count(tree: &[u8]) -> usize
+    requires { ⌜ 4 ≤ length (now tree) ⌝ }
+    ensures { λ r. ⌜ (r ≡ fileCount (now (tree .entry))) × (r < 4294967296) ⌝ }
+{
+    number(tree, 0)
+}
+
+// A part of the tree, from one place up to another, that one not included.
+pub struct Span {
+    pub from: usize,
+    pub to: usize,
+}
+
+// Where the path of a file stands.
+pub fn path_span(tree: &[u8], k: usize) -> Span
+    requires { ⌜ (isLaidOut (now tree) ≡ true) × (k < fileCount (now tree)) ⌝ }
+    ensures { λ r. ⌜
+        (r .from ≡ pathOffset (now (tree .entry)) (entryAt k))
+        × (r .to ≡ pathOffset (now (tree .entry)) (entryAt k) + pathLength (now (tree .entry)) (entryAt k))
+        × (r .from ≤ r .to)
+        × (r .to ≤ length (now (tree .entry)))
+        ⌝ }
+{
+    let entry = 4 + 16 * k;
+    let from = number(tree, entry);
+    Span {
+        from,
+        to: from + number(tree, entry + 4),
+    }
+}
+
+// Where the text of a file stands.
+pub fn text_span(tree: &[u8], k: usize) -> Span
+    requires { ⌜ (isLaidOut (now tree) ≡ true) × (k < fileCount (now tree)) ⌝ }
+    ensures { λ r. ⌜
+        (r .from ≡ textOffset (now (tree .entry)) (entryAt k))
+        × (r .to ≡ textOffset (now (tree .entry)) (entryAt k) + textLength (now (tree .entry)) (entryAt k))
+        × (r .from ≤ r .to)
+        × (r .to ≤ length (now (tree .entry)))
+        ⌝ }
+{
+    let entry = 4 + 16 * k;
+    let from = number(tree, entry + 8);
+    Span {
+        from,
+        to: from + number(tree, entry + 12),
+    }
+}
+
+// The paths are good, and each stands behind the one before. At first that is the empty path, behind which every path stands.
+pub fn paths_rise(tree: &[u8]) -> bool
+    requires { ⌜ isLaidOut (now tree) ≡ true ⌝ }
+    ensures { λ r. ⌜ r ≡ pathsRise [] (sources (now (tree .entry))) ⌝ }
+{
+    let n = file_count(tree);
+    let mut next = 0;
+    let mut a = 0;
+    let mut e = 0;
+    while next < n {
+        let path = path_span(tree, next);
+        let from = path.from;
+        let to = path.to;
+        if !next_path(&tree[a..e], &tree[from..to]) {
+            return false;
+        }
+        a = from;
+        e = to;
+        next += 1;
+    }
+    true
+}
+
+// Every text is UTF-8.
+pub fn texts_good(tree: &[u8]) -> bool
+    requires { ⌜ isLaidOut (now tree) ≡ true ⌝ }
+    ensures { λ r. ⌜ r ≡ textsGood (sources (now (tree .entry))) ⌝ }
+{
+    let n = file_count(tree);
+    let mut file = 0;
+    while file < n {
+        let text = text_span(tree, file);
+        let from = text.from;
+        let to = text.to;
+        if !utf8::is_utf8(&tree[from..to]) {
+            return false;
+        }
+        file += 1;
+    }
+    true
+}
+
+// The first of the refusals 1 to 4 that applies, or 0.
+pub fn tree_refusal(tree: &[u8]) -> u32
+    ensures { λ r. ⌜ r ≡ treeRefusal (now (tree .entry)) ⌝ }
+{
+    if tree.len() > MAX_TREE {
+        return 1;
+    }
+    if !laid_out(tree) {
+        return 2;
+    }
+    if !paths_rise(tree) {
+        return 3;
+    }
+    if !texts_good(tree) {
+        return 4;
+    }
+    0
 }

@@ -1,5 +1,5 @@
--- The rows of the table, one after another: a first byte that is not ASCII is of the first row whose test passes.
-use Prim.Native.Nat.{ℕ, _≤_}
+-- The rows of the table by the bounds of the first byte: it is above every row before its own.
+use Prim.Native.Nat.{ℕ, _≤_, _<_}
 use mathlib.Core.Path.{_≡_}
 use mathlib.Core.Bool.{true, false}
 use mathlib.Core.List.{[], _∷_}
@@ -14,50 +14,128 @@ pub row : (b : ℕ) (a : Awaited) (count low high : ℕ) → (a .count ≡ count
     → rowOf count low high ≡ follow b → count ≤ 3 → 128 ≤ low → Row b a
 row b a count low high e r m l = record { row-is = rw (e .0, e .1, e .2) r; short = omega arith; high = omega arith }
 
-module _ (b : ℕ) (h : 128 ≤ b) where
-  not-ascii : within b (0x00 to 0x7F) ≡ false
+module _ (b : ℕ) where
+  inside : (low high : ℕ) → low ≤ b → b ≤ high → within b (low to high) ≡ true
   unfolding within
-  not-ascii = rw (le-leb 0 b (omega arith), lt-leb b 0x7F (omega arith))
+  inside low high l h = rw (le-leb low b l, le-leb b high h)
 
-  pub row-c2 : within b (0xC2 to 0xDF) ≡ true → by (0x80 to 0xBF ∷ []) ≡ follow b
+  above : (low high : ℕ) → low ≤ b → high < b → within b (low to high) ≡ false
+  unfolding within
+  above low high l h = rw (le-leb low b l, lt-leb b high h)
+
+  below : (low high : ℕ) → b < low → within b (low to high) ≡ false
+  unfolding within
+  below low high h = rw (lt-leb low b h)
+
+  pub row-low : 0x80 ≤ b → b < 0xC2 → illFormed ≡ follow b
   unfolding follow
-  row-c2 t = rw (not-ascii, t)
+  row-low l h =
+      rw (
+        above 0x00 0x7F (omega arith) (omega arith),
+        below 0xC2 0xDF (omega arith),
+        below 0xE0 0xE0 (omega arith),
+        below 0xE1 0xEC (omega arith),
+        below 0xED 0xED (omega arith),
+        below 0xEE 0xEF (omega arith),
+        below 0xF0 0xF0 (omega arith),
+        below 0xF1 0xF3 (omega arith),
+        below 0xF4 0xF4 (omega arith),
+      )
 
-  module _ (n1 : within b (0xC2 to 0xDF) ≡ false) where
-    pub row-e0 : within b (0xE0 to 0xE0) ≡ true → by (0xA0 to 0xBF ∷ 0x80 to 0xBF ∷ []) ≡ follow b
-    unfolding follow
-    row-e0 t = rw (not-ascii, n1, t)
+  pub row-c2 : 0xC2 ≤ b → b ≤ 0xDF → by (0x80 to 0xBF ∷ []) ≡ follow b
+  unfolding follow
+  row-c2 l h = rw (above 0x00 0x7F (omega arith) (omega arith), inside 0xC2 0xDF l h)
 
-    module _ (n2 : within b (0xE0 to 0xE0) ≡ false) where
-      pub row-e1 : within b (0xE1 to 0xEC) ≡ true → by (0x80 to 0xBF ∷ 0x80 to 0xBF ∷ []) ≡ follow b
-      unfolding follow
-      row-e1 t = rw (not-ascii, n1, n2, t)
+  pub row-e0 : 0xE0 ≤ b → b ≤ 0xE0 → by (0xA0 to 0xBF ∷ 0x80 to 0xBF ∷ []) ≡ follow b
+  unfolding follow
+  row-e0 l h = rw (above 0x00 0x7F (omega arith) (omega arith), above 0xC2 0xDF (omega arith) (omega arith), inside 0xE0 0xE0 l h)
 
-      module _ (n3 : within b (0xE1 to 0xEC) ≡ false) where
-        pub row-ed : within b (0xED to 0xED) ≡ true → by (0x80 to 0x9F ∷ 0x80 to 0xBF ∷ []) ≡ follow b
-        unfolding follow
-        row-ed t = rw (not-ascii, n1, n2, n3, t)
+  pub row-e1 : 0xE1 ≤ b → b ≤ 0xEC → by (0x80 to 0xBF ∷ 0x80 to 0xBF ∷ []) ≡ follow b
+  unfolding follow
+  row-e1 l h =
+      rw (
+        above 0x00 0x7F (omega arith) (omega arith),
+        above 0xC2 0xDF (omega arith) (omega arith),
+        above 0xE0 0xE0 (omega arith) (omega arith),
+        inside 0xE1 0xEC l h,
+      )
 
-        module _ (n4 : within b (0xED to 0xED) ≡ false) where
-          pub row-ee : within b (0xEE to 0xEF) ≡ true → by (0x80 to 0xBF ∷ 0x80 to 0xBF ∷ []) ≡ follow b
-          unfolding follow
-          row-ee t = rw (not-ascii, n1, n2, n3, n4, t)
+  pub row-ed : 0xED ≤ b → b ≤ 0xED → by (0x80 to 0x9F ∷ 0x80 to 0xBF ∷ []) ≡ follow b
+  unfolding follow
+  row-ed l h =
+      rw (
+        above 0x00 0x7F (omega arith) (omega arith),
+        above 0xC2 0xDF (omega arith) (omega arith),
+        above 0xE0 0xE0 (omega arith) (omega arith),
+        above 0xE1 0xEC (omega arith) (omega arith),
+        inside 0xED 0xED l h,
+      )
 
-          module _ (n5 : within b (0xEE to 0xEF) ≡ false) where
-            pub row-f0 : within b (0xF0 to 0xF0) ≡ true → by (0x90 to 0xBF ∷ 0x80 to 0xBF ∷ 0x80 to 0xBF ∷ []) ≡ follow b
-            unfolding follow
-            row-f0 t = rw (not-ascii, n1, n2, n3, n4, n5, t)
+  pub row-ee : 0xEE ≤ b → b ≤ 0xEF → by (0x80 to 0xBF ∷ 0x80 to 0xBF ∷ []) ≡ follow b
+  unfolding follow
+  row-ee l h =
+      rw (
+        above 0x00 0x7F (omega arith) (omega arith),
+        above 0xC2 0xDF (omega arith) (omega arith),
+        above 0xE0 0xE0 (omega arith) (omega arith),
+        above 0xE1 0xEC (omega arith) (omega arith),
+        above 0xED 0xED (omega arith) (omega arith),
+        inside 0xEE 0xEF l h,
+      )
 
-            module _ (n6 : within b (0xF0 to 0xF0) ≡ false) where
-              pub row-f1 : within b (0xF1 to 0xF3) ≡ true → by (0x80 to 0xBF ∷ 0x80 to 0xBF ∷ 0x80 to 0xBF ∷ []) ≡ follow b
-              unfolding follow
-              row-f1 t = rw (not-ascii, n1, n2, n3, n4, n5, n6, t)
+  pub row-f0 : 0xF0 ≤ b → b ≤ 0xF0 → by (0x90 to 0xBF ∷ 0x80 to 0xBF ∷ 0x80 to 0xBF ∷ []) ≡ follow b
+  unfolding follow
+  row-f0 l h =
+      rw (
+        above 0x00 0x7F (omega arith) (omega arith),
+        above 0xC2 0xDF (omega arith) (omega arith),
+        above 0xE0 0xE0 (omega arith) (omega arith),
+        above 0xE1 0xEC (omega arith) (omega arith),
+        above 0xED 0xED (omega arith) (omega arith),
+        above 0xEE 0xEF (omega arith) (omega arith),
+        inside 0xF0 0xF0 l h,
+      )
 
-              module _ (n7 : within b (0xF1 to 0xF3) ≡ false) where
-                pub row-f4 : within b (0xF4 to 0xF4) ≡ true → by (0x80 to 0x8F ∷ 0x80 to 0xBF ∷ 0x80 to 0xBF ∷ []) ≡ follow b
-                unfolding follow
-                row-f4 t = rw (not-ascii, n1, n2, n3, n4, n5, n6, n7, t)
+  pub row-f1 : 0xF1 ≤ b → b ≤ 0xF3 → by (0x80 to 0xBF ∷ 0x80 to 0xBF ∷ 0x80 to 0xBF ∷ []) ≡ follow b
+  unfolding follow
+  row-f1 l h =
+      rw (
+        above 0x00 0x7F (omega arith) (omega arith),
+        above 0xC2 0xDF (omega arith) (omega arith),
+        above 0xE0 0xE0 (omega arith) (omega arith),
+        above 0xE1 0xEC (omega arith) (omega arith),
+        above 0xED 0xED (omega arith) (omega arith),
+        above 0xEE 0xEF (omega arith) (omega arith),
+        above 0xF0 0xF0 (omega arith) (omega arith),
+        inside 0xF1 0xF3 l h,
+      )
 
-                pub no-row : within b (0xF4 to 0xF4) ≡ false → illFormed ≡ follow b
-                unfolding follow
-                no-row n8 = rw (not-ascii, n1, n2, n3, n4, n5, n6, n7, n8)
+  pub row-f4 : 0xF4 ≤ b → b ≤ 0xF4 → by (0x80 to 0x8F ∷ 0x80 to 0xBF ∷ 0x80 to 0xBF ∷ []) ≡ follow b
+  unfolding follow
+  row-f4 l h =
+      rw (
+        above 0x00 0x7F (omega arith) (omega arith),
+        above 0xC2 0xDF (omega arith) (omega arith),
+        above 0xE0 0xE0 (omega arith) (omega arith),
+        above 0xE1 0xEC (omega arith) (omega arith),
+        above 0xED 0xED (omega arith) (omega arith),
+        above 0xEE 0xEF (omega arith) (omega arith),
+        above 0xF0 0xF0 (omega arith) (omega arith),
+        above 0xF1 0xF3 (omega arith) (omega arith),
+        inside 0xF4 0xF4 l h,
+      )
+
+  pub row-high : 0xF5 ≤ b → illFormed ≡ follow b
+  unfolding follow
+  row-high l =
+      rw (
+        above 0x00 0x7F (omega arith) (omega arith),
+        above 0xC2 0xDF (omega arith) (omega arith),
+        above 0xE0 0xE0 (omega arith) (omega arith),
+        above 0xE1 0xEC (omega arith) (omega arith),
+        above 0xED 0xED (omega arith) (omega arith),
+        above 0xEE 0xEF (omega arith) (omega arith),
+        above 0xF0 0xF0 (omega arith) (omega arith),
+        above 0xF1 0xF3 (omega arith) (omega arith),
+        above 0xF4 0xF4 (omega arith) (omega arith),
+      )

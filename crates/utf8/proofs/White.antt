@@ -8,11 +8,11 @@ use native.Mathlib.Numerals.{add-one}
 use native.Mathlib.Omega.{arith}
 use lib.ListN.{drop, drop-of-length-le, getD, length, length-drop}
 use lib.Seq.{drop-drop, getD-drop}
+use Rattle.text_rules.specs.ScanLaws.{split}
 use Rattle.text_rules.specs.Search.{opens}
 use Rattle.text_rules.specs.Utf8.{within}
 use Rattle.text_rules.specs.WhiteSpace.{isWideSpace, textEnd, whiteEnd, whiteLength}
 use Rattle.text_rules.specs.WhiteSpaceLaws.{text-skipLeft, white-inside, white-skipLeft}
-use Rattle.utf8.proofs.Wide.{split}
 
 -- only the first three bytes matter
 three-bytes : (t : List ℕ) → whiteLength t ≡ whiteLength (getD t 0 0 ∷ getD t 1 0 ∷ getD t 2 0 ∷ [])

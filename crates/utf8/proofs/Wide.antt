@@ -4,22 +4,17 @@ use mathlib.Core.Path.{_≡_, ap, sym, _∙_}
 use mathlib.Core.Logic.{_≢_, inl, inr}
 use mathlib.Core.Bool.{true, false, _&&_}
 use mathlib.Core.List.{List, [], _∷_}
-use native.Mathlib.Numerals.{add-one}
 use native.Mathlib.Omega.{arith}
 use lib.Dec.{lit≤, ltb}
 use lib.ListN.{List·getD-eq-default, drop, drop-of-length-le, getD, length}
-use lib.Seq.{drop-cons}
 use borrow.Author.Tests.{leb-true, lt-leb, ltb-false, ltb-true}
 use Rattle.text_rules.specs.BytesLaws.{and-left, whether}
+use Rattle.text_rules.specs.ScanLaws.{split}
 use Rattle.text_rules.specs.SearchLaws.{in-text}
 use Rattle.text_rules.specs.Utf8.{Range, _to_, goOn, isUtf8, wellFormedAfter, within}
 use Rattle.text_rules.specs.Utf8Cuts.{ascii-first}
 use Rattle.utf8.specs.Awaits.{Character, Row, rowOf, tails}
 use Rattle.utf8.specs.declared.Awaited.{Awaited}
-
--- the text from a place on is the byte there and the text from the next place on
-pub split : (s : List ℕ) (i : ℕ) → i < length s → drop i s ≡ getD s i 0 ∷ drop (i + 1) s
-split s i h = rw (add-one, drop-cons s i 0)
 
 -- one byte that is awaited, at the place i, and those from the next place j on
 after-step : (s : List ℕ) (i j : ℕ) → j ≡ i + 1 → (r : Range) (rs : List Range) → 1 ≤ r .low

@@ -42,6 +42,7 @@ struct Awaited {
     high: u8,
 }
 
+// A row's numbers.
 fn asks(count: u8, low: u8, high: u8) -> Awaited
     ensures { λ r. ⌜ (r .count ≡ count) × (r .low ≡ low) × (r .high ≡ high) ⌝ }
 {
@@ -53,28 +54,31 @@ fn follow(b: u8) -> Awaited
     requires { ⌜ 128 ≤ b ⌝ }
     ensures { λ r. ⌜ Row b r ⌝ }
 {
-    if within(b, 0xC2, 0xDF) {
+    if b < 0xC2 {
+        return asks(0, 0x80, 0xBF);
+    }
+    if b <= 0xDF {
         return asks(1, 0x80, 0xBF);
     }
-    if within(b, 0xE0, 0xE0) {
+    if b == 0xE0 {
         return asks(2, 0xA0, 0xBF);
     }
-    if within(b, 0xE1, 0xEC) {
+    if b <= 0xEC {
         return asks(2, 0x80, 0xBF);
     }
-    if within(b, 0xED, 0xED) {
+    if b == 0xED {
         return asks(2, 0x80, 0x9F);
     }
-    if within(b, 0xEE, 0xEF) {
+    if b <= 0xEF {
         return asks(2, 0x80, 0xBF);
     }
-    if within(b, 0xF0, 0xF0) {
+    if b == 0xF0 {
         return asks(3, 0x90, 0xBF);
     }
-    if within(b, 0xF1, 0xF3) {
+    if b <= 0xF3 {
         return asks(3, 0x80, 0xBF);
     }
-    if within(b, 0xF4, 0xF4) {
+    if b == 0xF4 {
         return asks(3, 0x80, 0x8F);
     }
     asks(0, 0x80, 0xBF)
@@ -191,7 +195,7 @@ fn white_e2(c: u8, d: u8) -> usize
     0
 }
 
-// The same for three given bytes.
+// The length of the character of white space that three given bytes begin; 0 where it is none.
 fn white_of(b: u8, c: u8, d: u8) -> usize
     ensures { λ r. ⌜ r ≡ whiteLength (b ∷ c ∷ d ∷ []) ⌝ }
 {

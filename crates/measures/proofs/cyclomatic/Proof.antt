@@ -24,16 +24,28 @@ loop-less c = let l = c .before .before .before in let s = l .before .before .ar
     omega (arith, p .ensures .end-is, piece-room s (l .loop .at) (omega arith))
 
 loop-again : tie.Need-loop-again Inv-loop μ-loop
-loop-again c = let l = c .before .before .before in let s = l .before .before .args .body .now in let p = c .before .piece-at in
-    (p .ensures .inside, omega (arith, p .ensures .end-is, piece-room s (l .loop .at) (omega arith)), ap (λ k. cyclomaticFrom (l .loop .n + 1) 0 (drop k s)) (p .ensures .end-is) ∙ sym (cyclomatic-more s (l .loop .at) (omega arith) (l .loop .n) (sym (p .ensures .decides-is) ∙ c .if1 .taken)) ∙ l .loop .inv .2)
+loop-again c =
+    let l = c .before .before .before in
+    let s = l .before .before .args .body .now in
+    let p = c .before .piece-at in
+    let room = piece-room s (l .loop .at) (omega arith) in
+    let step = cyclomatic-more s (l .loop .at) (omega arith) (l .loop .n) (sym (p .ensures .decides-is) ∙ c .if1 .taken) in
+    let place = ap (λ k. cyclomaticFrom (l .loop .n + 1) 0 (drop k s)) (p .ensures .end-is) in
+    (p .ensures .inside, omega (arith, p .ensures .end-is), place ∙ sym step ∙ l .loop .inv .2)
 
 loop-less-2 : tie.Need-loop-less-2 Inv-loop μ-loop
 loop-less-2 c = let l = c .before .before .before in let s = l .before .before .args .body .now in let p = c .before .piece-at in
     omega (arith, p .ensures .end-is, piece-room s (l .loop .at) (omega arith))
 
 loop-again-2 : tie.Need-loop-again-2 Inv-loop μ-loop
-loop-again-2 c = let l = c .before .before .before in let s = l .before .before .args .body .now in let p = c .before .piece-at in
-    (p .ensures .inside, omega (arith, p .ensures .end-is, piece-room s (l .loop .at) (omega arith)), ap (λ k. cyclomaticFrom (l .loop .n) 0 (drop k s)) (p .ensures .end-is) ∙ sym (cyclomatic-same s (l .loop .at) (omega arith) (l .loop .n) (sym (p .ensures .decides-is) ∙ c .if1 .left)) ∙ l .loop .inv .2)
+loop-again-2 c =
+    let l = c .before .before .before in
+    let s = l .before .before .args .body .now in
+    let p = c .before .piece-at in
+    let room = piece-room s (l .loop .at) (omega arith) in
+    let step = cyclomatic-same s (l .loop .at) (omega arith) (l .loop .n) (sym (p .ensures .decides-is) ∙ c .if1 .left) in
+    let place = ap (λ k. cyclomaticFrom (l .loop .n) 0 (drop k s)) (p .ensures .end-is) in
+    (p .ensures .inside, omega (arith, p .ensures .end-is), place ∙ sym step ∙ l .loop .inv .2)
 
 returns : tie.Need-returns Inv-loop μ-loop
 returns c = let l = c .before in let s = l .before .before .args .body .now in sym (cyclomatic-end s (l .loop .at) (c .loop-test .left) (l .loop .n) 0) ∙ l .loop .inv .2

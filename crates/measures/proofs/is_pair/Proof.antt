@@ -1,23 +1,20 @@
-use mathlib.Core.Bool.{or-false}
+-- The first byte tells which of the three pairs is left.
+use mathlib.Core.Path.{sym}
 use borrow.Author.Tests.{ne-eqb}
 use Rattle.text_rules.specs.Search.{opens}
 use Rattle.source_rules.specs.Measures.{isPair}
+use Rattle.measures.proofs.Body.{pair-and, pair-arrow, pair-or}
 use Rattle.measures.proofs.is_pair.Statement.{statement}
 use Rattle.measures.proofs.is_pair.Tie as tie
 
--- The first byte tells which of the three pairs is left.
-
 returns : tie.Need-returns
-unfolding isPair opens
-returns c = rw (c .if1 .taken, or-false, or-false)
+returns c = rw (c .if1 .taken) (sym (pair-and (c .before .args .c)))
 
 returns-2 : tie.Need-returns-2
-unfolding isPair opens
-returns-2 c = rw (c .if2 .taken, or-false)
+returns-2 c = rw (c .if2 .taken) (sym (pair-or (c .before .before .args .c)))
 
 returns-3 : tie.Need-returns-3
-unfolding isPair opens
-returns-3 c = rw (c .if3 .taken)
+returns-3 c = rw (c .if3 .taken) (sym (pair-arrow (c .before .before .before .args .c)))
 
 returns-4 : tie.Need-returns-4
 unfolding isPair opens

@@ -19,24 +19,53 @@ loop-holds : tie.Need-loop-holds Inv-loop μ-loop
 loop-holds c = (omega arith, omega arith, omega arith, omega arith, refl)
 
 loop-again : tie.Need-loop-again Inv-loop μ-loop
-loop-again c = let l = c .before .before .before .before in let s = l .before .before .args .s .now in
-    (omega arith, omega arith, omega arith, omega arith, sym (parts-open s (l .loop .at) (omega arith) (l .loop .n) (l .loop .opened) (l .loop .closed) (sym (c .before .is-opening .ensures) ∙ c .if1 .taken)) ∙ l .loop .inv .4)
+loop-again c =
+    let l = c .before .before .before .before in
+    let s = l .before .before .args .s .now in
+    let step = parts-open s (l .loop .at) (omega arith) (l .loop .n) (l .loop .opened) (l .loop .closed) (sym (c .before .is-opening .ensures) ∙ c .if1 .taken) in
+    (omega arith, omega arith, omega arith, omega arith, sym step ∙ l .loop .inv .4)
 
 loop-again-2 : tie.Need-loop-again-2 Inv-loop μ-loop
-loop-again-2 c = let l = c .before .before .before .before .before .before in let s = l .before .before .args .s .now in
-    (omega arith, omega arith, omega arith, omega arith, sym (parts-close s (l .loop .at) (omega arith) (l .loop .n) (l .loop .opened) (l .loop .closed) (sym (c .before .before .before .is-opening .ensures) ∙ c .before .before .if1 .left) (sym (c .before .is-closing .ensures) ∙ c .if2 .taken)) ∙ l .loop .inv .4)
+loop-again-2 c =
+    let l = c .before .before .before .before .before .before in
+    let s = l .before .before .args .s .now in
+    let e1 = c .before .before in
+    let o = sym (e1 .before .is-opening .ensures) ∙ e1 .if1 .left in
+    let step = parts-close s (l .loop .at) (omega arith) (l .loop .n) (l .loop .opened) (l .loop .closed) o (sym (c .before .is-closing .ensures) ∙ c .if2 .taken) in
+    (omega arith, omega arith, omega arith, omega arith, sym step ∙ l .loop .inv .4)
 
 loop-again-3 : tie.Need-loop-again-3 Inv-loop μ-loop
-loop-again-3 c = let l = c .before .before .before .before .before .before .before .before in let s = l .before .before .args .s .now in
-    (omega arith, omega arith, omega arith, omega arith, sym (parts-comma s (l .loop .at) (omega arith) (l .loop .n) (l .loop .opened) (l .loop .closed) (sym (c .before .before .before .before .before .is-opening .ensures) ∙ c .before .before .before .before .if1 .left) (sym (c .before .before .before .is-closing .ensures) ∙ c .before .before .if2 .left) (c .before .if3 .taken) (c .if4 .taken)) ∙ l .loop .inv .4)
+loop-again-3 c =
+    let l = c .before .before .before .before .before .before .before .before in
+    let s = l .before .before .args .s .now in
+    let e1 = c .before .before .before .before in
+    let o = sym (e1 .before .is-opening .ensures) ∙ e1 .if1 .left in
+    let e2 = c .before .before in
+    let k = sym (e2 .before .is-closing .ensures) ∙ e2 .if2 .left in
+    let step = parts-comma s (l .loop .at) (omega arith) (l .loop .n) (l .loop .opened) (l .loop .closed) o k (c .before .if3 .taken) (c .if4 .taken) in
+    (omega arith, omega arith, omega arith, omega arith, sym step ∙ l .loop .inv .4)
 
 loop-again-4 : tie.Need-loop-again-4 Inv-loop μ-loop
-loop-again-4 c = let l = c .before .before .before .before .before .before .before .before in let s = l .before .before .args .s .now in
-    (omega arith, omega arith, omega arith, omega arith, sym (parts-inner s (l .loop .at) (omega arith) (l .loop .n) (l .loop .opened) (l .loop .closed) (sym (c .before .before .before .before .before .is-opening .ensures) ∙ c .before .before .before .before .if1 .left) (sym (c .before .before .before .is-closing .ensures) ∙ c .before .before .if2 .left) (c .before .if3 .taken) (c .if4 .left)) ∙ l .loop .inv .4)
+loop-again-4 c =
+    let l = c .before .before .before .before .before .before .before .before in
+    let s = l .before .before .args .s .now in
+    let e1 = c .before .before .before .before in
+    let o = sym (e1 .before .is-opening .ensures) ∙ e1 .if1 .left in
+    let e2 = c .before .before in
+    let k = sym (e2 .before .is-closing .ensures) ∙ e2 .if2 .left in
+    let step = parts-inner s (l .loop .at) (omega arith) (l .loop .n) (l .loop .opened) (l .loop .closed) o k (c .before .if3 .taken) (c .if4 .left) in
+    (omega arith, omega arith, omega arith, omega arith, sym step ∙ l .loop .inv .4)
 
 loop-again-5 : tie.Need-loop-again-5 Inv-loop μ-loop
-loop-again-5 c = let l = c .before .before .before .before .before .before .before in let s = l .before .before .args .s .now in
-    (omega arith, omega arith, omega arith, omega arith, sym (parts-other s (l .loop .at) (omega arith) (l .loop .n) (l .loop .opened) (l .loop .closed) (sym (c .before .before .before .before .is-opening .ensures) ∙ c .before .before .before .if1 .left) (sym (c .before .before .is-closing .ensures) ∙ c .before .if2 .left) (c .if3 .left)) ∙ l .loop .inv .4)
+loop-again-5 c =
+    let l = c .before .before .before .before .before .before .before in
+    let s = l .before .before .args .s .now in
+    let e1 = c .before .before .before in
+    let o = sym (e1 .before .is-opening .ensures) ∙ e1 .if1 .left in
+    let e2 = c .before in
+    let k = sym (e2 .before .is-closing .ensures) ∙ e2 .if2 .left in
+    let step = parts-other s (l .loop .at) (omega arith) (l .loop .n) (l .loop .opened) (l .loop .closed) o k (c .if3 .left) in
+    (omega arith, omega arith, omega arith, omega arith, sym step ∙ l .loop .inv .4)
 
 returns : tie.Need-returns Inv-loop μ-loop
 returns c = let l = c .before in let s = l .before .before .args .s .now in

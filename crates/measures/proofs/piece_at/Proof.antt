@@ -13,21 +13,45 @@ use Rattle.measures.proofs.piece_at.Tie as tie
 -- The three kinds of a piece are told apart as in the definition.
 
 returns : tie.Need-returns
-returns c = let e = c .before .before in let i = e .before .before in let a = i .before .before .before .args in let s = a .body .now in
+returns c =
+    let e = c .before .before in
+    let i = e .before .before in
+    let a = i .before .before .before .args in
+    let s = a .body .now in
     let l = sym (i .is-letter .ensures) ∙ e .before .if1 .taken in
-    record { end-is = word-length s (a .at) (e .word-end .result) (e .word-end .ensures .0) l; decides-is = c .decides-word .ensures ∙ word-decides s (a .at) (e .word-end .result) (e .word-end .ensures .0) l; inside = e .word-end .ensures .1 }
+    record {
+      end-is = word-length s (a .at) (e .word-end .result) (e .word-end .ensures .0) l;
+      decides-is = c .decides-word .ensures ∙ word-decides s (a .at) (e .word-end .result) (e .word-end .ensures .0) l;
+      inside = e .word-end .ensures .1;
+    }
 
 returns-2 : tie.Need-returns-2
-returns-2 c = let y = c .before .before in let e = y .before in let a = e .before .before .before .before .args in let s = a .body .now in
+returns-2 c =
+    let y = c .before .before in
+    let e = y .before in
+    let a = e .before .before .before .before .args in
+    let s = a .body .now in
     let l = sym (e .before .is-letter .ensures) ∙ e .if1 .left in
     let p : isPair (drop (a .at) s) ≡ true = pair-at s (a .at) ∙ ap (λ k. isPair (getD s (a .at) 0 ∷ k ∷ [])) (sym (y .byte .ensures)) ∙ sym (c .before .is-pair .ensures) ∙ c .if2 .taken in
-    record { end-is = ap (λ k. a .at + k) (sym (pair-length s (a .at) l p)); decides-is = sym (pair-decides s (a .at) l p); inside = omega (arith, pair-length s (a .at) l p, piece-room s (a .at) (omega arith)) }
+    record {
+      end-is = ap (λ k. a .at + k) (sym (pair-length s (a .at) l p));
+      decides-is = sym (pair-decides s (a .at) l p);
+      inside = omega (arith, pair-length s (a .at) l p, piece-room s (a .at) (omega arith));
+    }
 
 returns-3 : tie.Need-returns-3
-returns-3 c = let y = c .before .before in let e = y .before in let a = e .before .before .before .before .args in let s = a .body .now in
+returns-3 c =
+    let y = c .before .before in
+    let e = y .before in
+    let a = e .before .before .before .before .args in
+    let s = a .body .now in
     let l = sym (e .before .is-letter .ensures) ∙ e .if1 .left in
     let p : isPair (drop (a .at) s) ≡ false = pair-at s (a .at) ∙ ap (λ k. isPair (getD s (a .at) 0 ∷ k ∷ [])) (sym (y .byte .ensures)) ∙ sym (c .before .is-pair .ensures) ∙ c .if2 .left in
-    record { end-is = ap (λ k. a .at + k) (sym (byte-length s (a .at) l p)); decides-is = sym (byte-decides s (a .at) l p); inside = omega arith }
+    record {
+      end-is = ap (λ k. a .at + k) (sym (byte-length s (a .at) l p));
+      decides-is = sym (byte-decides s (a .at) l p);
+      inside = omega arith;
+    }
 
 pub piece-at-spec : {M : Type 1} → statement M
 piece-at-spec =

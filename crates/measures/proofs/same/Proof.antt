@@ -3,7 +3,7 @@ use mathlib.Core.Path.{_∙_, _≡_, refl, sym}
 use native.Mathlib.Omega.{arith}
 use lib.ListN.{drop, length}
 use Rattle.text_rules.specs.Bytes.{same}
-use Rattle.measures.proofs.Places.{same-end, same-length, same-more, same-stop}
+use Rattle.text_rules.specs.TextSteps.{same-end, same-length, same-more, same-stop}
 use Rattle.measures.proofs.same.Statement.{statement}
 use Rattle.measures.proofs.same.Tie as tie
 

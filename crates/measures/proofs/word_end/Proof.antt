@@ -6,7 +6,7 @@ use borrow.Author.Tests.{not-false, not-true}
 use lib.ListN.{drop, length}
 use Rattle.text_rules.specs.Classes.{isWord}
 use Rattle.text_rules.specs.Search.{run}
-use Rattle.measures.proofs.Places.{run-end, run-more, run-stop}
+use Rattle.text_rules.specs.ScanLaws.{run-end, run-more, run-stop}
 use Rattle.measures.proofs.word_end.Statement.{statement}
 use Rattle.measures.proofs.word_end.Tie as tie
 
@@ -18,11 +18,11 @@ abbrev μ-loop : tie.MeasureT-loop
 
 returns : tie.Need-returns Inv-loop μ-loop
 returns c = let l = c .before .before .before .before in let s = l .before .before .args .s .now in
-    omega (arith, run-stop s (l .loop .at) isWord (omega arith) (sym (c .before .is-word .ensures) ∙ not-true _ (c .if1 .taken)))
+    omega (arith, run-stop s (l .loop .at) (omega arith) isWord (sym (c .before .is-word .ensures) ∙ not-true _ (c .if1 .taken)))
 
 loop-again : tie.Need-loop-again Inv-loop μ-loop
 loop-again c = let l = c .before .before .before .before in let s = l .before .before .args .s .now in
-    omega (arith, run-more s (l .loop .at) isWord (omega arith) (sym (c .before .is-word .ensures) ∙ not-false _ (c .if1 .left)))
+    omega (arith, run-more s (l .loop .at) (omega arith) isWord (sym (c .before .is-word .ensures) ∙ not-false _ (c .if1 .left)))
 
 returns-2 : tie.Need-returns-2 Inv-loop μ-loop
 returns-2 c = let l = c .before in let s = l .before .before .args .s .now in

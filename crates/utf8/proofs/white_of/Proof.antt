@@ -28,7 +28,11 @@ returns-5 c = rw (c .length-if3 .ensures, c .before .pair2 .ensures, c .before .
 
 returns-6 : tie.Need-returns-6
 unfolding whiteLength opens
-returns-6 c = let n = c .before .before .before .before in rw (← n .before .is-narrow-space .ensures, n .if1 .left, ne-eqb _ _ (c .before .before .before .if2 .left), ne-eqb _ _ (c .before .before .if3 .left), ne-eqb _ _ (c .before .if4 .left), ne-eqb _ _ (c .if5 .left))
+returns-6 c =
+    let n = c .before .before .before .before in
+    let two = ne-eqb _ _ (c .before .before .before .if2 .left) in
+    let three = ne-eqb _ _ (c .before .before .if3 .left) in
+    rw (← n .before .is-narrow-space .ensures, n .if1 .left, two, three, ne-eqb _ _ (c .before .if4 .left), ne-eqb _ _ (c .if5 .left))
 
 pub white-of-spec : {M : Type 1} → statement M
 white-of-spec =

@@ -1,39 +1,18 @@
--- A text at a place, as a loop reads it: the byte there and the text from the next place on.
+-- One step of each comparison of texts at a place: the last byte, two texts, and a word as the beginning of a text.
+-- Places are counted as in code, by `i + 1`.
 use Prim.Native.Nat.{ℕ, suc, _+_, _-_, _≤_, _<_}
 use mathlib.Core.Path.{_≡_, refl, ap, _∙_}
 use mathlib.Core.Logic.{_≢_, inl, inr}
-use mathlib.Core.Bool.{Bool, true, false, _&&_, or-false}
+use mathlib.Core.Bool.{true, false, _&&_}
 use mathlib.Core.List.{List, [], _∷_}
-use native.Mathlib.Nat.{add-zero}
-use native.Mathlib.Numerals.{add-one}
 use native.Mathlib.Omega.{arith}
 use lib.Dec.{eqb}
 use lib.ListN.{drop, drop-of-length-le, getD, length}
-use lib.Seq.{drop-cons, getD-drop}
 use borrow.Author.Tests.{eq-eqb, ne-eqb}
-use Rattle.text_rules.specs.Bytes.{among, same}
+use Rattle.text_rules.specs.Bytes.{same}
 use Rattle.text_rules.specs.BytesLaws.{same-true, whether}
-use Rattle.text_rules.specs.Search.{endsIn, run}
-
-pub split : (s : List ℕ) (i : ℕ) → i < length s → drop i s ≡ getD s i 0 ∷ drop (i + 1) s
-split s i h = rw (add-one, drop-cons s i 0)
-
-pub head-at : (s : List ℕ) (i : ℕ) → getD (drop i s) 0 0 ≡ getD s i 0
-head-at s i = rw (getD-drop i s 0 0, add-zero i)
-
--- one step of a run, and its end
-module _ (s : List ℕ) (i : ℕ) (f : ℕ → Bool) where
-  pub run-more : i < length s → f (getD s i 0) ≡ true → run f (drop i s) ≡ suc (run f (drop (i + 1) s))
-  unfolding run
-  run-more h e = rw (split s i h, e, run)
-
-  pub run-stop : i < length s → f (getD s i 0) ≡ false → run f (drop i s) ≡ 0
-  unfolding run
-  run-stop h e = rw (split s i h, e, run)
-
-  pub run-end : length s ≤ i → run f (drop i s) ≡ 0
-  unfolding run
-  run-end h = rw (drop-of-length-le s h)
+use Rattle.text_rules.specs.ScanLaws.{split}
+use Rattle.text_rules.specs.Search.{endsIn, startsWith}
 
 -- the last byte
 pub ends-last : (x : ℕ) (s : List ℕ) → 1 ≤ length s → endsIn x s ≡ eqb (getD s (length s - 1) 0) x
@@ -62,13 +41,22 @@ module _ (s t : List ℕ) (i : ℕ) where
   pub same-end : length s ≤ i → length t ≤ i → same (drop i s) (drop i t) ≡ true
   same-end h k = rw (drop-of-length-le s h, drop-of-length-le t k)
 
--- a text among others: it is the first, or it is looked for among the rest
-module _ (w t : List ℕ) where
-  pub among-here : (ts : List (List ℕ)) → same t w ≡ true → among w (t ∷ ts) ≡ true
-  among-here ts e = rw e
+-- a word from its byte i on, as the beginning of a text
+module _ (word : List ℕ) (i : ℕ) where
+  pub begins-end : (t : List ℕ) → length word ≤ i → startsWith (drop i word) t ≡ true
+  unfolding startsWith
+  begins-end t h = rw (drop-of-length-le word h)
 
-  pub among-next : (ts : List (List ℕ)) → same t w ≡ false → among w (t ∷ ts) ≡ among w ts
-  among-next ts e = rw e
+  module _ (h : i < length word) (t : List ℕ) where
+    pub begins-none : t ≡ [] → startsWith (drop i word) t ≡ false
+    unfolding startsWith
+    begins-none e = rw (e, split word i h)
 
-  pub among-last : among w (t ∷ []) ≡ same t w
-  among-last = or-false (same t w)
+    module _ (b : ℕ) (r : List ℕ) (e : t ≡ b ∷ r) where
+      pub begins-stop : b ≢ getD word i 0 → startsWith (drop i word) t ≡ false
+      unfolding startsWith
+      begins-stop n = rw (e, split word i h, ne-eqb b (getD word i 0) n)
+
+      pub begins-more : b ≡ getD word i 0 → startsWith (drop i word) t ≡ startsWith (drop (i + 1) word) r
+      unfolding startsWith
+      begins-more q = rw (e, split word i h, eq-eqb b (getD word i 0) q)

@@ -1,0 +1,109 @@
+-- What is found in a line, and in the lines from a place on.
+use Prim.Native.Nat.{ℕ, _+_, _-_, _≤_}
+use mathlib.Core.Path.{_≡_, refl, ap, ap₂, sym, _∙_}
+use mathlib.Core.Logic.{inl, inr}
+use mathlib.Core.Bool.{true, false}
+use mathlib.Core.List.{List, [], _∷_, _++_, map}
+use mathlib.Core.Option.{Option, none, some}
+use native.Mathlib.Omega.{arith}
+use lib.Dec.{ltb}
+use lib.ListN.{length, take, drop, drop-of-length-le}
+use borrow.Author.Tests.{ltb-false, ltb-true}
+use Rattle.text_rules.specs.Bytes.{present, same}
+use Rattle.text_rules.specs.BytesLaws.{whether}
+use Rattle.text_rules.specs.LineForms.{line-last, line-next, part-joined}
+use Rattle.text_rules.specs.Lines.{ended, fields, linesIn, split, withoutCR}
+use Rattle.text_rules.specs.Search.{bytesBefore, part}
+use Rattle.gate_rules.specs.Baseline.{Entry, entriesOfLines, entryOf, entryOfFields, laterOf, lookup}
+use Rattle.gate_rules.specs.Functions.{isComment, keyOf}
+use Rattle.baseline.specs.Reads.{Inside, acceptedBy, entryIn, hit, later, lineAt}
+use Rattle.baseline.specs.declared.Accepted.{Accepted}
+use Rattle.baseline.specs.declared.Accepted.the-variants.{Measures, Unlisted}
+use Rattle.baseline.specs.declared.Line.{Line}
+use Rattle.baseline.specs.declared.Line.the-variants.{Entry as EntryOf, Nothing}
+use Rattle.baseline.specs.declared.Listed.{Listed}
+
+-- the key of an entry stands in its line as it is: path, tab and name
+own-key : (line : List ℕ) (l : Listed) → Inside line (EntryOf l) → keyOf (part 0 (l .«path_end») line) (part (l .«path_end» + 1) (l .«name_end») line) ≡ take (l .«name_end») line
+own-key line l h =
+    let m : ℕ = l .«path_end» in
+    let n : ℕ = l .«name_end» in
+    let z : m - 0 ≡ m = omega arith in
+    ap₂ (λ (i b : ℕ). take i line ++ b ∷ part (m + 1) n line) z (sym (h .2)) ∙ part-joined line m n (h .0) (omega (arith, h .1))
+
+-- a line whose entry has the key, one whose entry has another, and one without an entry
+module _ (k line : List ℕ) (r : Line) (inside : Inside line r) (is : entryIn line r ≡ entryOf line) where
+  module _ (l : Listed) (e : r ≡ EntryOf l) where
+    here : Inside line (EntryOf l)
+    here = rw e at inside
+
+    read : (t : Accepted) → acceptedBy (hit k (entryIn line (EntryOf l))) ≡ t → t ≡ acceptedBy (hit k (entryOf line))
+    read t h = sym h ∙ ap (λ o. acceptedBy (hit k o)) (ap (entryIn line) (sym e) ∙ is)
+
+    pub line-hit : same (take (l .«name_end») line) k ≡ true → Measures (record { cyclomatic = l .cyclomatic; lines = l .lines }) ≡ acceptedBy (hit k (entryOf line))
+    line-hit t = read _ (rw (ap (λ s. same s k) (own-key line l here) ∙ t))
+
+    pub line-miss : same (take (l .«name_end») line) k ≡ false → Unlisted ≡ acceptedBy (hit k (entryOf line))
+    line-miss t = read _ (rw (ap (λ s. same s k) (own-key line l here) ∙ t))
+
+  pub line-none : r ≡ Nothing → Unlisted ≡ acceptedBy (hit k (entryOf line))
+  line-none e = ap (λ o. acceptedBy (hit k o)) (ap (entryIn line) (sym e) ∙ is)
+
+-- the first line of several, then the others
+later-none : (a : Option Entry) → a ≡ laterOf none a
+later-none none = refl
+later-none (some e) = refl
+
+first-line : (k : List ℕ) (o : Option Entry) (os : List (Option Entry)) → lookup k (present (o ∷ os)) ≡ laterOf (hit k o) (lookup k (present os))
+unfolding lookup
+first-line k none os = later-none (lookup k (present os))
+first-line k (some e) os = refl
+
+none-empty : (k : List ℕ) → lookup k (entriesOfLines []) ≡ none
+unfolding lookup entriesOfLines linesIn ended split entryOf entryOfFields fields isComment
+none-empty k = refl
+
+none-past : (k s : List ℕ) (at : ℕ) → length s ≤ at → lookup k (entriesOfLines (drop at s)) ≡ none
+none-past k s at h = ap (λ r. lookup k (entriesOfLines r)) (drop-of-length-le s h) ∙ none-empty k
+
+next-line : (k s : List ℕ) (from end : ℕ) → end ≡ from + bytesBefore 10 (drop from s)
+    → lookup k (entriesOfLines (drop from s)) ≡ laterOf (hit k (entryOf (lineAt s from end))) (lookup k (entriesOfLines (drop (end + 1) s)))
+unfolding entriesOfLines lookup
+next-line k s from end e =
+    elim (whether (ltb end (length s))) [
+      | inl t ↦
+          rw (t, line-next s from end e (ltb-true end (length s) t))
+          (first-line k (entryOf (withoutCR (part from end s))) (map entryOf (linesIn (drop (end + 1) s))))
+      | inr t ↦
+          let h : length s ≤ end = ltb-false end (length s) t in
+          rw (t, line-last s from end e h, none-past k s (end + 1) (omega arith)) (first-line k (entryOf (part from end s)) [])
+    ]
+
+-- of finds, the last wins
+later-two : (found : Accepted) (a b : Option Entry) → later found (acceptedBy (laterOf a b)) ≡ later (later found (acceptedBy a)) (acceptedBy b)
+later-two found a none = refl
+later-two found a (some e) = refl
+
+-- what is found up to a place, then what is found from there on
+abbrev pub foundFrom : Accepted → List ℕ → List ℕ → ℕ → Accepted
+foundFrom found k s at = later found (acceptedBy (lookup k (entriesOfLines (drop at s))))
+
+pub found-next : (found : Accepted) (k s : List ℕ) (from end to : ℕ) → end ≡ from + bytesBefore 10 (drop from s) → part from to s ≡ lineAt s from end
+    → foundFrom (later found (acceptedBy (hit k (entryOf (part from to s))))) k s (end + 1) ≡ foundFrom found k s from
+found-next found k s from end to e p =
+    ap (λ l. foundFrom (later found (acceptedBy (hit k (entryOf l)))) k s (end + 1)) p
+    ∙ sym (later-two found (hit k (entryOf (lineAt s from end))) (lookup k (entriesOfLines (drop (end + 1) s))))
+    ∙ ap (λ o. later found (acceptedBy o)) (sym (next-line k s from end e))
+
+pub found-start : (k s : List ℕ) → foundFrom Unlisted k s 0 ≡ acceptedBy (lookup k (entriesOfLines s))
+found-start k s = unlisted (acceptedBy (lookup k (entriesOfLines s)))
+  where
+    unlisted : (a : Accepted) → later Unlisted a ≡ a
+    unlisted (Measures m) = refl
+    unlisted Unlisted = refl
+
+pub found-end : (found : Accepted) (k s : List ℕ) (at : ℕ) → length s ≤ at → foundFrom found k s at ≡ found
+found-end found k s at h = ap (λ o. later found (acceptedBy o)) (none-past k s at h)
+
+pub end-inside : (line : List ℕ) (r : Line) (l : Listed) → Inside line r → r ≡ EntryOf l → l .«name_end» ≤ length line
+end-inside line r l h e = let k : Inside line (EntryOf l) = rw e at h in omega (arith, k .1)

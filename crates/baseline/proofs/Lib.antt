@@ -1,0 +1,5 @@
+-- The laws that the functions cite.
+mod Fields
+mod Finds
+mod Keys
+mod Numbers

@@ -1,0 +1,303 @@
+// The baseline: its lines and their fields by their bounds, its numbers, and the look-up of a function's key. Nothing is copied.
+ghost use mathlib.Core.Path.{_≡_};
+ghost use mathlib.Core.Bool.{true};
+ghost use Prim.Native.Nat.{_+_, _*_, _-_, _≤_, _<_};
+ghost use lib.Dec.{leb};
+ghost use lib.ListN.{length, drop, getD};
+ghost use Rattle.text_rules.specs.Bytes.{same};
+ghost use Rattle.text_rules.specs.Classes.{isDigit, lf, tab};
+ghost use Rattle.text_rules.specs.Decimal.{numeral, parseNumber};
+ghost use Rattle.text_rules.specs.Search.{bytesBefore, part};
+ghost use Rattle.text_rules.specs.Utf8.{isUtf8};
+ghost use Rattle.gate_rules.specs.Baseline.{entriesOfLines, entryOf, entryWith, lookup};
+ghost use Rattle.gate_rules.specs.Functions.{keyOf};
+ghost use Rattle.baseline.specs.Reads.{Inside, acceptedBy, entryIn, hit, later, lineAt, numberOf};
+
+const TAB: u8 = b'\t';
+
+const LF: u8 = b'\n';
+
+const CR: u8 = b'\r';
+
+const HASH: u8 = b'#';
+
+const PLUS: u8 = b'+';
+
+const MAX_U32: u64 = 4294967295;
+
+const MAX_U64: u64 = 18446744073709551615;
+
+// The place of the next `x`, or the text's length.
+fn next(s: &[u8], from: usize, x: u8) -> usize
+    requires { ⌜ from ≤ length (now s) ⌝ }
+    ensures { λ r. ⌜ (r ≡ from + bytesBefore x (drop from (now (s .entry)))) × (from ≤ r) × (r ≤ length (now (s .entry))) ⌝ }
+{
+    let mut at = from;
+    while at < s.len() {
+        if s[at] == x {
+            return at;
+        }
+        at += 1;
+    }
+    at
+}
+
+// Where a line ends: at the next LF, or at the end of the text.
+pub fn line_end(s: &[u8], from: usize) -> usize
+    requires { ⌜ from ≤ length (now s) ⌝ }
+    ensures { λ r. ⌜ (r ≡ from + bytesBefore lf (drop from (now (s .entry)))) × (from ≤ r) × (r ≤ length (now (s .entry))) ⌝ }
+{
+    next(s, from, LF)
+}
+
+// Where the bytes of a line end: before one CR, where an LF ends the line.
+pub fn trimmed_end(s: &[u8], from: usize, end: usize) -> usize
+    requires { ⌜ (from ≤ end) × (end ≤ length (now s)) ⌝ }
+    ensures { λ r. ⌜ (part from r (now (s .entry)) ≡ lineAt (now (s .entry)) from end) × (from ≤ r) × (r ≤ end) ⌝ }
+{
+    if end == s.len() {
+        return end;
+    }
+    if from == end {
+        return end;
+    }
+    if s[end - 1] == CR {
+        return end - 1;
+    }
+    end
+}
+
+// Where a field of a line ends: at the next tab, or at the end of the line.
+pub fn field_end(line: &[u8], from: usize) -> usize
+    requires { ⌜ from ≤ length (now line) ⌝ }
+    ensures { λ r. ⌜ (r ≡ from + bytesBefore tab (drop from (now (line .entry)))) × (from ≤ r) × (r ≤ length (now (line .entry))) ⌝ }
+{
+    next(line, from, TAB)
+}
+
+// A number field.
+pub enum Numeral {
+    Value(u64),
+    Bad,
+}
+
+fn is_digit(b: u8) -> bool
+    ensures { λ r. ⌜ r ≡ isDigit b ⌝ }
+{
+    if b'0' <= b { b <= b'9' } else { false }
+}
+
+// What a digit stands for.
+fn digit(b: u8) -> u64
+    requires { ⌜ isDigit b ≡ true ⌝ }
+    ensures { λ r. ⌜ r ≡ b - 48 ⌝ }
+{
+    (b - b'0') as u64
+}
+
+// Whether a number with one digit more is within the limit. The number itself may be past the largest u64.
+fn fits(n: u64, d: u64, limit: u64) -> bool
+    ensures { λ r. ⌜ r ≡ leb (n * 10 + d) limit ⌝ }
+{
+    if limit / 10 < n {
+        return false;
+    }
+    d <= limit - n * 10
+}
+
+// One or more digits, within the limit. A number only grows with its digits, so one that is past the limit stays past it.
+fn digits(s: &[u8], limit: u64) -> Numeral
+    ensures { λ r. ⌜ numberOf r ≡ numeral limit (now (s .entry)) ⌝ }
+{
+    if s.len() == 0 {
+        return Numeral::Bad;
+    }
+    let mut n: u64 = 0;
+    let mut i = 0;
+    while i < s.len() {
+        let b = s[i];
+        if !is_digit(b) {
+            return Numeral::Bad;
+        }
+        let d = digit(b);
+        if !fits(n, d, limit) {
+            return Numeral::Bad;
+        }
+        n = n * 10 + d;
+        i += 1;
+    }
+    Numeral::Value(n)
+}
+
+// One or more digits after an optional `+`, within the limit.
+pub fn number(s: &[u8], limit: u64) -> Numeral
+    ensures { λ r. ⌜ numberOf r ≡ parseNumber limit (now (s .entry)) ⌝ }
+{
+    if utf8::byte(s, 0) == PLUS {
+        return digits(&s[1..], limit);
+    }
+    digits(s, limit)
+}
+
+// An entry of the baseline. Its path ends at `path_end`, its name stands behind the tab there and ends at `name_end`.
+pub struct Listed {
+    pub path_end: usize,
+    pub name_end: usize,
+    pub cyclomatic: u32,
+    pub lines: u64,
+}
+
+pub enum Line {
+    Entry(Listed),
+    Nothing,
+}
+
+// The entry of a line with four fields that end at the four places, if both numbers are read.
+fn measured(line: &[u8], a: usize, b: usize, c: usize, d: usize) -> Line
+    requires { ⌜ (a < b) × (b < c) × (c < d) × (d ≤ length (now line)) × (getD (now line) a 0 ≡ tab) ⌝ }
+    ensures { λ r. ⌜
+        Inside (now (line .entry)) r
+        × (entryIn (now (line .entry)) r ≡ entryWith (part 0 a (now (line .entry))) (part (a + 1) b (now (line .entry)))
+        (parseNumber 4294967295 (part (b + 1) c (now (line .entry))))
+        (parseNumber 18446744073709551615 (part (c + 1) d (now (line .entry)))))
+        ⌝ }
+{
+    let first = number(&line[b + 1..c], MAX_U32);
+    let second = number(&line[c + 1..d], MAX_U64);
+    match first {
+        Numeral::Value(m) => match second {
+            Numeral::Value(n) => {
+                let cyclomatic = m as u32;
+                Line::Entry(Listed {
+                    path_end: a,
+                    name_end: b,
+                    cyclomatic,
+                    lines: n,
+                })
+            }
+            Numeral::Bad => Line::Nothing,
+        },
+        Numeral::Bad => Line::Nothing,
+    }
+}
+
+// The entry of a line: four fields, of which the last two are numbers. A line that starts with # has none.
+pub fn entry(line: &[u8]) -> Line
+    ensures { λ r. ⌜ Inside (now (line .entry)) r × (entryIn (now (line .entry)) r ≡ entryOf (now (line .entry))) ⌝ }
+{
+    if utf8::byte(line, 0) == HASH {
+        return Line::Nothing;
+    }
+    let a = field_end(line, 0);
+    if a == line.len() {
+        return Line::Nothing;
+    }
+    let b = field_end(line, a + 1);
+    if b == line.len() {
+        return Line::Nothing;
+    }
+    let c = field_end(line, b + 1);
+    if c == line.len() {
+        return Line::Nothing;
+    }
+    let d = field_end(line, c + 1);
+    measured(line, a, b, c, d)
+}
+
+// Whether two texts are the same.
+fn same_bytes(s: &[u8], t: &[u8]) -> bool
+    ensures { λ r. ⌜ r ≡ same (now (s .entry)) (now (t .entry)) ⌝ }
+{
+    if s.len() != t.len() {
+        return false;
+    }
+    let mut i = 0;
+    while i < s.len() {
+        if s[i] != t[i] {
+            return false;
+        }
+        i += 1;
+    }
+    true
+}
+
+// Whether the bytes are those of path, tab and name.
+fn is_key(key: &[u8], path: &[u8], name: &[u8]) -> bool
+    ensures { λ r. ⌜ r ≡ same (now (key .entry)) (keyOf (now (path .entry)) (now (name .entry))) ⌝ }
+{
+    let n = path.len();
+    if key.len() <= n {
+        return false;
+    }
+    if key[n] != TAB {
+        return false;
+    }
+    if !same_bytes(&key[..n], path) {
+        return false;
+    }
+    same_bytes(&key[n + 1..], name)
+}
+
+// The measures that an entry accepts.
+pub struct Recorded {
+    pub cyclomatic: u32,
+    pub lines: u64,
+}
+
+pub enum Accepted {
+    Measures(Recorded),
+    Unlisted,
+}
+
+// What a line accepts of the function with this path and name.
+fn in_line(line: &[u8], path: &[u8], name: &[u8]) -> Accepted
+    ensures { λ r. ⌜ r ≡ acceptedBy (hit (keyOf (now (path .entry)) (now (name .entry))) (entryOf (now (line .entry)))) ⌝ }
+{
+    match entry(line) {
+        Line::Entry(e) => {
+            let end = e.name_end;
+            if is_key(&line[..end], path, name) {
+                Accepted::Measures(Recorded {
+                    cyclomatic: e.cyclomatic,
+                    lines: e.lines,
+                })
+            } else {
+                Accepted::Unlisted
+            }
+        }
+        Line::Nothing => Accepted::Unlisted,
+    }
+}
+
+// Of two finds the later one wins.
+fn later(found: Accepted, next: Accepted) -> Accepted
+    ensures { λ r. ⌜ r ≡ later found next ⌝ }
+{
+    match next {
+        Accepted::Measures(m) => Accepted::Measures(m),
+        Accepted::Unlisted => found,
+    }
+}
+
+// What the baseline accepts of the function with this path and name. Of equal keys the last line wins.
+pub fn lookup(baseline: &[u8], path: &[u8], name: &[u8]) -> Accepted
+    ensures { λ r. ⌜ r ≡ acceptedBy (lookup (keyOf (now (path .entry)) (now (name .entry))) (entriesOfLines (now (baseline .entry)))) ⌝ }
+{
+    let mut found = Accepted::Unlisted;
+    let mut from = 0;
+    while from < baseline.len() {
+        let end = line_end(baseline, from);
+        let to = trimmed_end(baseline, from, end);
+        let here = in_line(&baseline[from..to], path, name);
+        found = later(found, here);
+        from = end + 1;
+    }
+    found
+}
+
+// A baseline that is not UTF-8 has no entry.
+pub fn readable(baseline: &[u8]) -> bool
+    ensures { λ r. ⌜ r ≡ isUtf8 (now (baseline .entry)) ⌝ }
+{
+    utf8::is_utf8(baseline)
+}
