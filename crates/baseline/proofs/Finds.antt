@@ -60,8 +60,7 @@ module _ (s : List ℕ) (from to : ℕ) (h : to ≤ length s) (r : Line) (inside
       let size : length (part from to s) ≤ to - from = simp (length-take) (omega arith) in
       let n : from + l .«name_end» - from ≡ l .«name_end» = omega arith in
       let there : part from (from + l .«name_end») s ≡ take (l .«name_end») (part from to s) =
-      ap (λ m. take m (drop from s)) n ∙ sym (take-take (l .«name_end») (to - from) (drop from s) (omega (arith, here .1))) in
-      (
+      ap (λ m. take m (drop from s)) n ∙ sym (take-take (l .«name_end») (to - from) (drop from s) (omega (arith, here .1))) in (
         omega arith,
         omega (arith, here .1),
         ap some (there ∙ sym (own-key (part from to s) l here)) ∙ ap keyOfEntry (ap (entryIn (part from to s)) (sym e) ∙ is),
