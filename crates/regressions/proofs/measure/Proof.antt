@@ -1,6 +1,6 @@
 -- `regressions::measure` meets its contract: what is counted, and what the functions still to come have, is the whole.
-use Prim.Native.Nat.{_*_, _+_, _-_, _<_, _≤_}
-use mathlib.Core.Path.{_≡_, ap, refl}
+use Prim.Native.Nat.{_*_, _+_, _-_, _≤_}
+use mathlib.Core.Path.{_≡_, ap}
 use native.Mathlib.Omega.{arith}
 use lib.ListN.{length}
 use borrow.Author.Needs.{needs}

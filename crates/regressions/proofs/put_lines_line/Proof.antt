@@ -1,6 +1,5 @@
 -- `regressions::put_lines_line` meets its contract: each part is put behind the one before.
-use mathlib.Core.Path.{_∙_, ap}
-use mathlib.Core.List.{[], _∷_}
+use mathlib.Core.Path.{ap, _∙_}
 use lib.ListN.{length}
 use native.Mathlib.Omega.{arith}
 use denote.Ref.{now}

@@ -1,5 +1,5 @@
 -- `regressions::put_new` meets its contract: its test is that of the definition.
-use mathlib.Core.Path.{_∙_, ap, sym}
+use mathlib.Core.Path.{ap, sym, _∙_}
 use native.Mathlib.Omega.{arith}
 use lib.ListN.{length}
 use denote.Ref.{now}

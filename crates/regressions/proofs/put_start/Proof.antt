@@ -1,5 +1,5 @@
 -- `regressions::put_start` meets its contract: each part is put behind the one before.
-use mathlib.Core.Path.{_∙_, ap}
+use mathlib.Core.Path.{ap, _∙_}
 use mathlib.Core.List.{[], _∷_}
 use lib.ListN.{length}
 use native.Mathlib.Omega.{arith}
