@@ -48,7 +48,7 @@ static void pack(size_t files, const char *const paths[], const char *const text
 
 static void blanking(void) {
     const char *text = "let a = \"x\n{\"; // }\nlet b = 'c';\n";
-    const char *blank = "let a =   \n   ;     \nlet b =    ;\n";
+    const char *blank = "let a =   \n  ;     \nlet b =    ;\n";
     size_t n = strlen(text);
     memset(output, 'z', ROOM);
     expect(complexity_blank((const uint8_t *)text, n, output, ROOM) == 0, "blank succeeds");
