@@ -15,9 +15,12 @@ use Rattle.text_rules.specs.Selection.{Placed, ahead}
 use Rattle.gate_rules.specs.Functions.{Fun, Limits, over}
 use Rattle.gate_rules.specs.RowOrders.{row-orders}
 use Rattle.gate_rules.specs.Update.{rowBefore}
-use Rattle.functions.specs.Shown.{noFun}
+use Rattle.gate_rules.specs.Gate.{gate}
+use Rattle.gate_rules.specs.Scan.{functionsOf}
+use Rattle.functions.specs.Shown.{Lies, noFun, shown}
+use Rattle.gate_update.specs.declared.Row.{Row}
 use Rattle.order.specs.Best.{After, Best, best-better, best-first, best-unfit, best-worse}
-use Rattle.order.specs.Picks.{ahead-earlier, ahead-less, ahead-trans, behind-more, placed}
+use Rattle.order.specs.Picks.{ahead-earlier, ahead-less, ahead-trans, placed}
 
 -- a row is ahead: before in the order of the rows, and where neither is, the one that stands earlier in scan order
 abbrev pub rowAhead : Placed Fun → Placed Fun → Bool
@@ -110,17 +113,12 @@ always p = record { yes = λ h. p; no = λ h. absurd (true-false true refl h) }
 pub never : {P : Type 0} → (P → ⊥) → Decides P false
 never n = record { yes = λ h. absurd (true-false false h refl); no = λ h. n }
 
-module _ (fs : List Fun) (j k : ℕ) where
-  pub ahead-before : rowBefore (getD fs j noFun) (getD fs k noFun) ≡ true → rowAhead (rowAt fs j) (rowAt fs k) ≡ true
-  ahead-before e = ahead-less rowBefore row-orders (rowAt fs j) (rowAt fs k) e
+-- a row read back from the records: its function is the one with its number
+pub record Held (tree : List ℕ) (r : Row) : Type 0 where
+  pub inside : r .number < length (functionsOf gate tree)
+  pub shown-is : shown tree (r .function) ≡ getD (functionsOf gate tree) (r .number) noFun
+  pub lies : Lies tree (r .function)
 
-  pub ahead-behind : rowBefore (getD fs k noFun) (getD fs j noFun) ≡ true → rowAhead (rowAt fs j) (rowAt fs k) ≡ false
-  ahead-behind e =
-      elim (whether (rowAhead (rowAt fs j) (rowAt fs k))) [
-        | inl a ↦ absurd (behind-more rowBefore row-orders (rowAt fs j) (rowAt fs k) e a)
-        | inr a ↦ a
-      ]
-
-  pub ahead-tied : rowBefore (getD fs j noFun) (getD fs k noFun) ≡ false → rowBefore (getD fs k noFun) (getD fs j noFun) ≡ false → rowAhead (rowAt fs j) (rowAt fs k) ≡ ltb j k
-  unfolding ahead
-  ahead-tied e d = rw (e, d)
+-- the same of a row that may stand for none
+abbrev pub Known : List ℕ → Row → Type 0
+Known tree r = (r .number ≡ length (functionsOf gate tree) → ⊥) → Held tree r

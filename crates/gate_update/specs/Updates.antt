@@ -10,10 +10,13 @@ use borrow.Author.Tests.{le-ltb, lt-ltb, ltb-false}
 use Rattle.text_rules.specs.Answer.{answerAt}
 use Rattle.text_rules.specs.Bytes.{_orElse_, _when_, overwritten}
 use Rattle.text_rules.specs.BytesLaws.{orElse-first, orElse-rest, when-fails}
+use Rattle.gate_rules.specs.BufferLaws.{update-keeps}
+use Rattle.gate_rules.specs.CallLaws.{updated-number}
 use Rattle.gate_rules.specs.Calls.{Updated, outputAfter, recordsAfter, room, scanCall, scanNumber, updateAnswer, updateCall, updateNumber, workAfter}
 use Rattle.gate_rules.specs.Functions.{Limits}
 use Rattle.gate_rules.specs.Gate.{gate}
 use Rattle.gate_rules.specs.Scan.{functionsOf}
+use Rattle.gate_rules.specs.SettlesProof.{updated-enough}
 use Rattle.gate_rules.specs.Tree.{treeRefusal}
 use Rattle.gate_rules.specs.Update.{baselineText, recorded}
 use Rattle.answers.specs.declared.Answer.{Answer}
@@ -35,6 +38,23 @@ pub record Updates (r : UpdateAnswer) (c : Updated) (work records output : List 
 pub updates-by : (r : UpdateAnswer) (K L : Limits) (tree work records′ output w l o : List ℕ) → K ≡ L → Updates r (updateCall gate K tree work records′ output) w l o
     → Updates r (updateCall gate L tree work records′ output) w l o
 updates-by r K L tree work records′ output w l o e u = subst (λ M. Updates r (updateCall gate M tree work records′ output) w l o) e u
+
+-- what is written lies in the output, as a caller that reads it back asks
+written-most : (L : Limits) (tree work records′ output : List ℕ) (n : ℕ) → updateNumber gate L tree work records′ output ≡ n → updateAnswer L n (functionsOf gate tree) .written ≤ length output
+unfolding updateCall
+written-most L tree work records′ output zero e = updated-enough L gate tree work records′ output (updated-number L _ _ ∙ e) .output-holds
+written-most L tree work records′ output (suc n) e = omega arith
+
+pub written-inside : (r : UpdateAnswer) (L : Limits) (tree work records′ output w l o : List ℕ) → Updates r (updateCall gate L tree work records′ output) w l o → r .written ≤ length o
+unfolding updateCall
+written-inside r L tree work records′ output w l o u =
+    omega (
+      arith,
+      u .written-is,
+      ap length (u .output-is),
+      update-keeps L tree work records′ output .same-output,
+      written-most L tree work records′ output (updateNumber gate L tree work records′ output) refl,
+    )
 
 or-else : (a b c : ℕ) → (a orElse b) orElse c ≡ a orElse (b orElse c)
 or-else zero b c = refl
