@@ -7,7 +7,8 @@ use mathlib.Core.List.{List, [], _∷_, _++_, map}
 use mathlib.Core.Option.{Option, none, some}
 use native.Mathlib.Omega.{arith}
 use lib.Dec.{ltb}
-use lib.ListN.{length, take, drop, drop-of-length-le}
+use lib.ListN.{length, take, drop, length-take}
+use lib.Seq.{take-take}
 use borrow.Author.Tests.{ltb-false, ltb-true}
 use Rattle.text_rules.specs.Bytes.{present, same}
 use Rattle.text_rules.specs.BytesLaws.{whether}
@@ -16,7 +17,8 @@ use Rattle.text_rules.specs.Lines.{ended, fields, linesIn, split, withoutCR}
 use Rattle.text_rules.specs.Search.{bytesBefore, part}
 use Rattle.gate_rules.specs.Baseline.{Entry, entriesOfLines, entryOf, entryOfFields, laterOf, lookup}
 use Rattle.gate_rules.specs.Functions.{isComment, keyOf}
-use Rattle.baseline.specs.Reads.{Inside, acceptedBy, entryIn, hit, later, lineAt}
+use Rattle.baseline.specs.Reads.{Inside, acceptedBy, entryIn, hit, keyOfEntry, later, lineAt}
+use Rattle.baseline.specs.Steps.{entries-end, entries-next, entryList}
 use Rattle.baseline.specs.declared.Accepted.{Accepted}
 use Rattle.baseline.specs.declared.Accepted.the-variants.{Measures, Unlisted}
 use Rattle.baseline.specs.declared.Line.{Line}
@@ -49,35 +51,42 @@ module _ (k line : List ℕ) (r : Line) (inside : Inside line r) (is : entryIn l
   pub line-none : r ≡ Nothing → Unlisted ≡ acceptedBy (hit k (entryOf line))
   line-none e = ap (λ o. acceptedBy (hit k o)) (ap (entryIn line) (sym e) ∙ is)
 
+-- the key of a line that stands in a text, by its bounds
+module _ (s : List ℕ) (from to : ℕ) (h : to ≤ length s) (r : Line) (inside : Inside (part from to s) r) (is : entryIn (part from to s) r ≡ entryOf (part from to s)) where
+  pub key-some : (l : Listed) → r ≡ EntryOf l
+      → (from ≤ from + l .«name_end») × (from + l .«name_end» ≤ length s) × (some (part from (from + l .«name_end») s) ≡ keyOfEntry (entryOf (part from to s)))
+  key-some l e =
+      let here : Inside (part from to s) (EntryOf l) = rw e at inside in
+      let size : length (part from to s) ≤ to - from = simp (length-take) (omega arith) in
+      let n : from + l .«name_end» - from ≡ l .«name_end» = omega arith in
+      let there : part from (from + l .«name_end») s ≡ take (l .«name_end») (part from to s) =
+      ap (λ m. take m (drop from s)) n ∙ sym (take-take (l .«name_end») (to - from) (drop from s) (omega (arith, here .1))) in (
+        omega arith,
+        omega (arith, here .1),
+        ap some (there ∙ sym (own-key (part from to s) l here)) ∙ ap keyOfEntry (ap (entryIn (part from to s)) (sym e) ∙ is),
+      )
+
+  pub key-none : r ≡ Nothing → none ≡ keyOfEntry (entryOf (part from to s))
+  key-none e = ap keyOfEntry (ap (entryIn (part from to s)) (sym e) ∙ is)
+
 -- the first line of several, then the others
 later-none : (a : Option Entry) → a ≡ laterOf none a
 later-none none = refl
 later-none (some e) = refl
 
-first-line : (k : List ℕ) (o : Option Entry) (os : List (Option Entry)) → lookup k (present (o ∷ os)) ≡ laterOf (hit k o) (lookup k (present os))
+first-find : (k : List ℕ) (o : Option Entry) (es : List Entry) → lookup k (entryList o ++ es) ≡ laterOf (hit k o) (lookup k es)
 unfolding lookup
-first-line k none os = later-none (lookup k (present os))
-first-line k (some e) os = refl
-
-none-empty : (k : List ℕ) → lookup k (entriesOfLines []) ≡ none
-unfolding lookup entriesOfLines linesIn ended split entryOf entryOfFields fields isComment
-none-empty k = refl
+first-find k none es = later-none (lookup k es)
+first-find k (some e) es = refl
 
 none-past : (k s : List ℕ) (at : ℕ) → length s ≤ at → lookup k (entriesOfLines (drop at s)) ≡ none
-none-past k s at h = ap (λ r. lookup k (entriesOfLines r)) (drop-of-length-le s h) ∙ none-empty k
+unfolding lookup
+none-past k s at h = ap (lookup k) (entries-end s at h)
 
 next-line : (k s : List ℕ) (from end : ℕ) → end ≡ from + bytesBefore 10 (drop from s)
     → lookup k (entriesOfLines (drop from s)) ≡ laterOf (hit k (entryOf (lineAt s from end))) (lookup k (entriesOfLines (drop (end + 1) s)))
-unfolding entriesOfLines lookup
 next-line k s from end e =
-    elim (whether (ltb end (length s))) [
-      | inl t ↦
-          rw (t, line-next s from end e (ltb-true end (length s) t))
-          (first-line k (entryOf (withoutCR (part from end s))) (map entryOf (linesIn (drop (end + 1) s))))
-      | inr t ↦
-          let h : length s ≤ end = ltb-false end (length s) t in
-          rw (t, line-last s from end e h, none-past k s (end + 1) (omega arith)) (first-line k (entryOf (part from end s)) [])
-    ]
+    ap (lookup k) (entries-next s from end e) ∙ first-find k (entryOf (lineAt s from end)) (entriesOfLines (drop (end + 1) s))
 
 -- of finds, the last wins
 later-two : (found : Accepted) (a b : Option Entry) → later found (acceptedBy (laterOf a b)) ≡ later (later found (acceptedBy a)) (acceptedBy b)

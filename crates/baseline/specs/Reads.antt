@@ -1,5 +1,5 @@
 -- What the answers of this crate stand for, in the words of the rules.
-use Prim.Native.Nat.{ℕ, _+_, _<_}
+use Prim.Native.Nat.{ℕ, _+_, _<_, _≤_}
 use mathlib.Core.Path.{_≡_}
 use mathlib.Core.List.{List}
 use mathlib.Core.Option.{Option, none, some}
@@ -12,6 +12,8 @@ use Rattle.text_rules.specs.Search.{part}
 use Rattle.gate_rules.specs.Baseline.{Entry, entryKey}
 use Rattle.baseline.specs.declared.Accepted.{Accepted}
 use Rattle.baseline.specs.declared.Accepted.the-variants.{Measures, Unlisted}
+use Rattle.baseline.specs.declared.Key.{Key}
+use Rattle.baseline.specs.declared.Key.the-variants.{Bytes, Nothing as Absent}
 use Rattle.baseline.specs.declared.Line.{Line}
 use Rattle.baseline.specs.declared.Line.the-variants.{Entry as EntryOf, Nothing}
 use Rattle.baseline.specs.declared.Numeral.{Numeral}
@@ -40,6 +42,19 @@ Inside line Nothing = Unit {0}
 abbrev pub hit : List ℕ → Option Entry → Option Entry
 hit k none = none
 hit k (some e) = if same (entryKey e) k then some e else none
+
+-- a key by its bounds, and the key of an entry
+abbrev pub keyIn : List ℕ → Key → Option (List ℕ)
+keyIn s (Bytes from to) = some (part from to s)
+keyIn s Absent = none
+
+abbrev pub KeyInside : List ℕ → Key → Type 0
+KeyInside s (Bytes from to) = (from ≤ to) × (to ≤ length s)
+KeyInside s Absent = Unit {0}
+
+abbrev pub keyOfEntry : Option Entry → Option (List ℕ)
+keyOfEntry none = none
+keyOfEntry (some e) = some (entryKey e)
 
 -- what an entry accepts
 abbrev pub acceptedBy : Option Entry → Accepted

@@ -11,7 +11,7 @@ ghost use Rattle.text_rules.specs.Search.{bytesBefore, part};
 ghost use Rattle.text_rules.specs.Utf8.{isUtf8};
 ghost use Rattle.gate_rules.specs.Baseline.{entriesOfLines, entryOf, entryWith, lookup};
 ghost use Rattle.gate_rules.specs.Functions.{keyOf};
-ghost use Rattle.baseline.specs.Reads.{Inside, acceptedBy, entryIn, hit, later, lineAt, numberOf};
+ghost use Rattle.baseline.specs.Reads.{Inside, KeyInside, acceptedBy, entryIn, hit, keyIn, keyOfEntry, later, lineAt, numberOf};
 
 const TAB: u8 = b'\t';
 
@@ -205,7 +205,7 @@ pub fn entry(line: &[u8]) -> Line
 }
 
 // Whether the bytes are those of path, tab and name.
-fn is_key(key: &[u8], path: &[u8], name: &[u8]) -> bool
+pub fn is_key(key: &[u8], path: &[u8], name: &[u8]) -> bool
     ensures { λ r. ⌜ r ≡ same (now (key .entry)) (keyOf (now (path .entry)) (now (name .entry))) ⌝ }
 {
     let n = path.len();
@@ -219,6 +219,23 @@ fn is_key(key: &[u8], path: &[u8], name: &[u8]) -> bool
         return false;
     }
     order::same_bytes(&key[n + 1..], name)
+}
+
+// The key of an entry, by its bounds in the baseline.
+pub enum Key {
+    Bytes(usize, usize),
+    Nothing,
+}
+
+// The key of the line that stands from one place up to another. It stands in the line as it is: path, tab and name.
+pub fn key_at(baseline: &[u8], from: usize, to: usize) -> Key
+    requires { ⌜ (from ≤ to) × (to ≤ length (now baseline)) ⌝ }
+    ensures { λ r. ⌜ KeyInside (now (baseline .entry)) r × (keyIn (now (baseline .entry)) r ≡ keyOfEntry (entryOf (part from to (now (baseline .entry))))) ⌝ }
+{
+    match entry(&baseline[from..to]) {
+        Line::Entry(e) => Key::Bytes(from, from + e.name_end),
+        Line::Nothing => Key::Nothing,
+    }
 }
 
 // The measures that an entry accepts.

@@ -65,7 +65,7 @@ module _ {B : Type 0} (ahead : B → B → Bool) where
     not-after x d [] h k a = asym x d h a
     not-after x d (e ∷ es) h k a = not-after x e es (k .0) (k .1) a
 
-    first-not : (x : B) (ds : List B) → All (λ y. ahead x y ≡ true) ds → After (lastOf (x ∷ ds)) x → ⊥
+    pub first-not : (x : B) (ds : List B) → All (λ y. ahead x y ≡ true) ds → After (lastOf (x ∷ ds)) x → ⊥
     first-not x [] k a = asym x x a a
     first-not x (d ∷ ds) k a = not-after x d ds (k .0) (k .1) a
 
@@ -87,7 +87,7 @@ module _ {B : Type 0} (ahead : B → B → Bool) where
           | inr n ↦ in-rest (y ∷ ys) rest (h .1) n a
         ]
 
-    rest-after : (done rest : List B) → Rising ahead (done ++ rest) → {z : B} → z ∈ rest → After (lastOf done) z
+    pub rest-after : (done rest : List B) → Rising ahead (done ++ rest) → {z : B} → z ∈ rest → After (lastOf done) z
     rest-after [] rest h m = tt
     rest-after (x ∷ []) rest h m = All-at _ rest (h .0) m
     rest-after (x ∷ y ∷ ys) rest h m = rest-after (y ∷ ys) rest (h .1) m

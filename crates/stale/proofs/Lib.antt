@@ -1,0 +1,5 @@
+-- The laws that the functions cite.
+mod Live
+mod OneMore
+mod Lines
+mod Taking

@@ -1,0 +1,231 @@
+// The stale keys: those of entries that no function of the tree has. They are taken one by one in byte order of the whole key, each once.
+// Keys stay where they are, in the lines of the baseline.
+ghost use mathlib.Core.Path.{_≡_};
+ghost use mathlib.Core.List.{List, [], _∷_, _++_, map};
+ghost use Prim.Native.Nat.{ℕ, _+_, _≤_};
+ghost use mathlib.Core.Bool.{true};
+ghost use lib.ListN.{length};
+ghost use Rattle.text_rules.specs.Bytes.{among, before, putAt};
+ghost use Rattle.text_rules.specs.Search.{part};
+ghost use Rattle.text_rules.specs.Utf8.{isUtf8};
+ghost use Rattle.gate_rules.specs.Baseline.{entriesOfLines, entryOf};
+ghost use Rattle.gate_rules.specs.Check.{listed, spaced, stale};
+ghost use Rattle.gate_rules.specs.Functions.{key};
+ghost use Rattle.gate_rules.specs.Gate.{gate};
+ghost use Rattle.gate_rules.specs.Scan.{functionsOf};
+ghost use Rattle.functions.specs.Shown.{Lies, Stand, shown};
+ghost use Rattle.baseline.specs.Reads.{KeyInside, keyIn};
+ghost use Rattle.order.specs.Best.{Best};
+ghost use Rattle.stale.specs.Taken.{Fit, AllStand, ahead, behind, keyList, nextStale, staleIn};
+use baseline::Key;
+use functions::Function;
+
+// How many there are, and the bytes of their lines.
+pub struct Size {
+    pub count: usize,
+    pub bytes: usize,
+}
+
+// Whether the function has the key.
+fn has_key(tree: &[u8], f: Function, bytes: &[u8]) -> bool
+    requires { ⌜ Lies (now tree) f ⌝ }
+    ensures { λ r. ⌜ r ≡ among (now (bytes .entry)) (key (shown (now (tree .entry)) f) ∷ []) ⌝ }
+{
+    let path_at = f.path_at;
+    let path_end = f.path_end;
+    let name_at = f.name_at;
+    let name_end = f.name_end;
+    baseline::is_key(bytes, &tree[path_at..path_end], &tree[name_at..name_end])
+}
+
+// Whether a function of the tree has the key.
+fn is_live(tree: &[u8], lent: &[u8], n: usize, bytes: &[u8]) -> bool
+    requires { ⌜ AllStand (now tree) (now lent) n ⌝ }
+    ensures { λ r. ⌜ r ≡ among (now (bytes .entry)) (map key (functionsOf gate (now (tree .entry)))) ⌝ }
+{
+    let mut k = 0;
+    while k < n {
+        let f = functions::function_at(tree, lent, k);
+        if has_key(tree, f, bytes) {
+            return true;
+        }
+        k += 1;
+    }
+    false
+}
+
+// Behind the last key that was taken. At first none was.
+fn is_behind(lines: &[u8], last: Key, from: usize, to: usize) -> bool
+    requires { ⌜ KeyInside (now lines) last × (from ≤ to) × (to ≤ length (now lines)) ⌝ }
+    ensures { λ r. ⌜ r ≡ behind (keyIn (now (lines .entry)) last) (part from to (now (lines .entry))) ⌝ }
+{
+    match last {
+        Key::Bytes(a, b) => order::before(&lines[a..b], &lines[from..to]),
+        Key::Nothing => true,
+    }
+}
+
+// Before the best key so far. At first there is none.
+fn is_ahead(lines: &[u8], from: usize, to: usize, best: Key) -> bool
+    requires { ⌜ KeyInside (now lines) best × (from ≤ to) × (to ≤ length (now lines)) ⌝ }
+    ensures { λ r. ⌜ r ≡ ahead (part from to (now (lines .entry))) (keyIn (now (lines .entry)) best) ⌝ }
+{
+    match best {
+        Key::Bytes(a, b) => order::before(&lines[from..to], &lines[a..b]),
+        Key::Nothing => true,
+    }
+}
+
+// The best key so far, or a key that is behind the last one, ahead of the best and stale. Whether a function has it is asked last, as that costs most.
+fn better(
+    tree: &[u8],
+    lent: &[u8],
+    n: usize,
+    lines: &[u8],
+    last: Key,
+    best: Key,
+    from: usize,
+    to: usize,
+) -> Key
+    requires { ⌜ AllStand (now tree) (now lent) n × KeyInside (now lines) last × KeyInside (now lines) best × (from ≤ to) × (to ≤ length (now lines)) ⌝ }
+    ensures { λ r. ⌜
+        KeyInside (now (lines .entry)) r
+        × ((seen : List (List ℕ)) → Best before (Fit (map key (functionsOf gate (now (tree .entry)))) (keyIn (now (lines .entry)) last)) seen (keyIn (now (lines .entry)) best)
+        → Best before (Fit (map key (functionsOf gate (now (tree .entry)))) (keyIn (now (lines .entry)) last)) (seen ++ part from to (now (lines .entry)) ∷ []) (keyIn (now (lines .entry)) r))
+        ⌝ }
+{
+    if !is_behind(lines, last, from, to) {
+        return best;
+    }
+    if !is_ahead(lines, from, to, best) {
+        return best;
+    }
+    if is_live(tree, lent, n, &lines[from..to]) {
+        return best;
+    }
+    Key::Bytes(from, to)
+}
+
+// The best key after a line more, which stands from one place up to another.
+fn line_more(
+    tree: &[u8],
+    lent: &[u8],
+    n: usize,
+    lines: &[u8],
+    last: Key,
+    best: Key,
+    from: usize,
+    to: usize,
+) -> Key
+    requires { ⌜ AllStand (now tree) (now lent) n × KeyInside (now lines) last × KeyInside (now lines) best × (from ≤ to) × (to ≤ length (now lines)) ⌝ }
+    ensures { λ r. ⌜
+        KeyInside (now (lines .entry)) r
+        × ((seen : List (List ℕ)) → Best before (Fit (map key (functionsOf gate (now (tree .entry)))) (keyIn (now (lines .entry)) last)) seen (keyIn (now (lines .entry)) best)
+        → Best before (Fit (map key (functionsOf gate (now (tree .entry)))) (keyIn (now (lines .entry)) last)) (seen ++ keyList (entryOf (part from to (now (lines .entry))))) (keyIn (now (lines .entry)) r))
+        ⌝ }
+{
+    let found = baseline::key_at(lines, from, to);
+    match found {
+        Key::Bytes(a, b) => better(tree, lent, n, lines, last, best, a, b),
+        Key::Nothing => best,
+    }
+}
+
+// The first stale key behind the last one that was taken.
+pub fn next_stale(tree: &[u8], lent: &[u8], n: usize, lines: &[u8], last: Key) -> Key
+    requires { ⌜ AllStand (now tree) (now lent) n × KeyInside (now lines) last ⌝ }
+    ensures { λ r. ⌜
+        KeyInside (now (lines .entry)) r
+        × (keyIn (now (lines .entry)) r ≡ nextStale (entriesOfLines (now (lines .entry))) (functionsOf gate (now (tree .entry))) (keyIn (now (lines .entry)) last))
+        ⌝ }
+{
+    let mut best = Key::Nothing;
+    let mut from = 0;
+    while from < lines.len() {
+        let end = baseline::line_end(lines, from);
+        let to = baseline::trimmed_end(lines, from, end);
+        best = line_more(tree, lent, n, lines, last, best, from, to);
+        from = end + 1;
+    }
+    best
+}
+
+// How many stale keys there are, and the bytes of their lines.
+pub fn measure(tree: &[u8], lent: &[u8], n: usize, lines: &[u8]) -> Size
+    requires { ⌜ AllStand (now tree) (now lent) n × (isUtf8 (now lines) ≡ true) × (length (now lines) ≤ 33554432) ⌝ }
+    ensures { λ r. ⌜
+        (r .count ≡ length (staleIn (now (tree .entry)) (now (lines .entry))))
+        × (r .bytes ≡ length (listed (map spaced (staleIn (now (tree .entry)) (now (lines .entry))))))
+        × (r .count ≤ 33554432)
+        × (r .bytes ≤ 90000000)
+        ⌝ }
+{
+    let mut last = Key::Nothing;
+    let mut count: usize = 0;
+    let mut bytes: usize = 0;
+    loop {
+        let next = next_stale(tree, lent, n, lines, last);
+        match next {
+            Key::Bytes(from, to) => {
+                count += 1;
+                bytes += 3 + (to - from);
+                last = Key::Bytes(from, to);
+            }
+            Key::Nothing => {
+                return Size { count, bytes };
+            }
+        }
+    }
+}
+
+// The line of a key: two spaces, the key with a space for its tab, and LF.
+fn put_key(out: &mut [u8], at: usize, bytes: &[u8]) -> usize
+    requires { ⌜ at + 3 + length (now bytes) ≤ length (now out) ⌝ }
+    ensures { λ r. ⌜
+        (r ≡ at + length (listed (spaced (now (bytes .entry)) ∷ [])))
+        × (now (out .exit) ≡ putAt at (listed (spaced (now (bytes .entry)) ∷ [])) (now (out .entry)))
+        ⌝ }
+{
+    let text = listing::put_text(out, at, b"  ");
+    let end = listing::put_spaced(out, text, bytes);
+    listing::put_text(out, end, b"\n")
+}
+
+// The lines of the stale keys, of which there are `count`.
+pub fn put_all(
+    tree: &[u8],
+    lent: &[u8],
+    n: usize,
+    lines: &[u8],
+    count: usize,
+    out: &mut [u8],
+    at: usize,
+) -> usize
+    requires { ⌜
+        AllStand (now tree) (now lent) n
+        × (count ≡ length (staleIn (now tree) (now lines)))
+        × (at + length (listed (map spaced (staleIn (now tree) (now lines)))) ≤ length (now out))
+        ⌝ }
+    ensures { λ r. ⌜
+        (r ≡ at + length (listed (map spaced (staleIn (now (tree .entry)) (now (lines .entry))))))
+        × (now (out .exit) ≡ putAt at (listed (map spaced (staleIn (now (tree .entry)) (now (lines .entry))))) (now (out .entry)))
+        ⌝ }
+{
+    let mut last = Key::Nothing;
+    let mut done = at;
+    let mut k: usize = 0;
+    while k < count {
+        let next = next_stale(tree, lent, n, lines, last);
+        match next {
+            Key::Bytes(from, to) => {
+                done = put_key(out, done, &lines[from..to]);
+                last = Key::Bytes(from, to);
+                k += 1;
+            }
+            Key::Nothing => {
+                return done;
+            }
+        }
+    }
+    done
+}
