@@ -10,13 +10,13 @@ use borrow.Author.Tests.{le-ltb, lt-ltb, ltb-false}
 use Rattle.text_rules.specs.Answer.{answerAt}
 use Rattle.text_rules.specs.Bytes.{_orElse_, _when_, overwritten}
 use Rattle.text_rules.specs.BytesLaws.{orElse-first, orElse-rest, when-fails}
-use Rattle.gate_rules.specs.BufferLaws.{update-keeps}
-use Rattle.gate_rules.specs.CallLaws.{updated-number}
 use Rattle.gate_rules.specs.Calls.{Updated, outputAfter, recordsAfter, room, scanCall, scanNumber, updateAnswer, updateCall, updateNumber, workAfter}
 use Rattle.gate_rules.specs.Functions.{Limits}
 use Rattle.gate_rules.specs.Gate.{gate}
+use Rattle.gate_rules.specs.LeftLaws.{update-keeps}
 use Rattle.gate_rules.specs.Scan.{functionsOf}
 use Rattle.gate_rules.specs.SettlesProof.{updated-enough}
+use Rattle.gate_rules.specs.TableLaws.{answer-number, updated-number}
 use Rattle.gate_rules.specs.Tree.{treeRefusal}
 use Rattle.gate_rules.specs.Update.{baselineText, recorded}
 use Rattle.answers.specs.declared.Answer.{Answer}
@@ -60,10 +60,6 @@ or-else : (a b c : ℕ) → (a orElse b) orElse c ≡ a orElse (b orElse c)
 or-else zero b c = refl
 or-else (suc a) b c = refl
 
-answered : (n written functions : ℕ) → answerAt n written functions .number ≡ n
-answered zero written functions = refl
-answered (suc n) written functions = refl
-
 module _ (L : Limits) (tree work records′ output : List ℕ) where
   -- update's number is the scan's, and where that is 0 the output may be too short
   number-is-scan : updateNumber gate L tree work records′ output ≡ scanNumber gate tree work records′ orElse 9 when ltb (length output) (length (baselineText L (functionsOf gate tree)))
@@ -91,7 +87,7 @@ module _ (L : Limits) (tree work records′ output : List ℕ) where
   module _ (s : Answer) (w l : List ℕ) (scanned : Scans s (scanCall gate tree work records′) w l) where
     scan-number : s .number ≡ scanNumber gate tree work records′
     unfolding scanCall
-    scan-number = scanned .number-is ∙ answered (scanNumber gate tree work records′) 0 (length (functionsOf gate tree))
+    scan-number = scanned .number-is ∙ answer-number (scanNumber gate tree work records′) 0 (length (functionsOf gate tree))
 
     work-at : (n : ℕ) → scanNumber gate tree work records′ ≡ n → w ≡ workAfter gate n tree work
     unfolding scanCall

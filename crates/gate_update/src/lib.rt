@@ -2,7 +2,7 @@
 ghost use mathlib.Core.Path.{_≡_};
 ghost use mathlib.Core.List.{List, [], _∷_, _++_};
 ghost use Prim.Native.Nat.{ℕ, _+_, _≤_, _<_};
-ghost use lib.ListN.{length, getD};
+ghost use lib.ListN.{length};
 ghost use Rattle.text_rules.specs.Bytes.{overwritten, putAt, same};
 ghost use Rattle.text_rules.specs.Selection.{Placed, placedFrom};
 ghost use Rattle.gate_rules.specs.Calls.{updateCall};
@@ -10,7 +10,7 @@ ghost use Rattle.gate_rules.specs.Functions.{Fun, gateLimits};
 ghost use Rattle.gate_rules.specs.Gate.{gate};
 ghost use Rattle.gate_rules.specs.Scan.{functionsOf};
 ghost use Rattle.gate_rules.specs.Update.{baselineText, header, recorded, rows};
-ghost use Rattle.functions.specs.Shown.{Lies, Stand, limitsOf, noFun, shown};
+ghost use Rattle.functions.specs.Shown.{Lies, Stand, limitsOf, shown};
 ghost use Rattle.gate_update.specs.Choice.{Chosen, Decides, Fit, Held, Known, rowAhead, rowAt};
 ghost use Rattle.gate_update.specs.Rows.{Narrow, keyed, keyedLength, lined, linedLength, measured, measuredLength};
 ghost use Rattle.gate_update.specs.Updates.{Updates};

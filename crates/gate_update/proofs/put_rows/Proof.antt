@@ -1,6 +1,6 @@
 -- `gate_update::put_rows` meets its contract: at each turn the rows that are left, put behind, make the whole.
 use Prim.Native.Nat.{_-_, _≤_}
-use mathlib.Core.Path.{sym, _∙_}
+use mathlib.Core.Path.{_∙_}
 use native.Mathlib.Omega.{arith}
 use denote.Ref.{now}
 use borrow.Author.Needs.{needs}

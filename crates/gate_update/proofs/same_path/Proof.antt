@@ -1,6 +1,5 @@
 -- `gate_update::same_path` meets its contract: with the same bounds the paths are the same bytes.
-use mathlib.Core.Path.{_≡_, ap, ap₂, sym, subst, _∙_}
-use mathlib.Core.Bool.{true}
+use mathlib.Core.Path.{ap, ap₂, sym, _∙_}
 use denote.Ref.{now}
 use Rattle.text_rules.specs.Bytes.{same}
 use Rattle.text_rules.specs.BytesLaws.{same-refl}
