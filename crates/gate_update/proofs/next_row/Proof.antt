@@ -23,10 +23,6 @@ Inv-loop tree lent n limits last best₀ k₀ best k =
 abbrev μ-loop : tie.MeasureT-loop
 μ-loop tree lent n limits last best₀ k₀ best k = n - k
 
-no-row-requires : tie.Need-no-row-requires Inv-loop μ-loop
-no-row-requires c κs =
-    search needs
-
 loop-holds : tie.Need-loop-holds Inv-loop μ-loop
 loop-holds c =
     let s = c .before .before .before in
@@ -35,23 +31,11 @@ loop-holds c =
     let e = c .no-row .ensures ∙ s .pre .1 in
     (omega arith, λ n. absurd (n e), subst (Best rowAhead (Fit fs (limitsOf (a .limits)) (a .last .number)) []) (sym (choice-none fs (c .no-row .result .number) e)) tt)
 
-row-at-requires : tie.Need-row-at-requires Inv-loop μ-loop
-row-at-requires c κs =
-    search needs
-
 better-requires : tie.Need-better-requires Inv-loop μ-loop
 better-requires c κs =
     let l = c .before .before in
     let s = l .before .before .before .before in
     (s .pre .1, s .pre .2, l .loop .inv .1, c .row-at .ensures .1)
-
-add-k : tie.Need-add-k Inv-loop μ-loop
-add-k c =
-    search needs
-
-loop-less : tie.Need-loop-less Inv-loop μ-loop
-loop-less c =
-    search needs
 
 loop-again : tie.Need-loop-again Inv-loop μ-loop
 loop-again c =
@@ -81,11 +65,11 @@ next-row-spec =
     (tie.spec
     Inv-loop
     μ-loop
-    no-row-requires
+    (λ c κs. search needs)
     loop-holds
-    row-at-requires
+    (λ c κs. search needs)
     better-requires
-    add-k
-    loop-less
+    (λ c. search needs)
+    (λ c. search needs)
     loop-again
     returns)
