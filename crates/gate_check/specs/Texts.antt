@@ -12,7 +12,7 @@ use Rattle.gate_rules.specs.Check.{listed, listing, regressions, spaced, stale,
 use Rattle.gate_rules.specs.Functions.{Fun, Limits}
 use Rattle.gate_rules.specs.Gate.{gate}
 use Rattle.gate_rules.specs.Scan.{functionsOf}
-use Rattle.listing.specs.Texts.{counted, counted-length}
+use Rattle.listing.specs.Texts.{regression-count-length, regressionCount}
 
 -- the regression lines of a tree against a baseline's lines
 abbrev pub worseIn : Limits → (tree lines : List ℕ) → List (List ℕ)
@@ -73,10 +73,10 @@ some-worse zero bytes h = absurd (omega arith)
 some-worse (suc n) bytes h = refl
 
 abbrev pub verdictParts : (count : ℕ) (lines : List (List ℕ)) → List (List ℕ)
-verdictParts count lines = counted count ∷ listed lines ∷ []
+verdictParts count lines = regressionCount count ∷ listed lines ∷ []
 
 verdict-parts-length : (count : ℕ) (lines : List (List ℕ)) → length (joined (verdictParts count lines)) ≡ someWorse count (length (listed lines))
-verdict-parts-length count lines = joined-length (verdictParts count lines) ∙ (omega (arith, counted-length count))
+verdict-parts-length count lines = joined-length (verdictParts count lines) ∙ (omega (arith, regression-count-length count))
 
 verdict-many : (lines : List (List ℕ)) → 1 ≤ length lines → joined (verdictParts (length lines) lines) ≡ verdictText lines
 unfolding verdictText

@@ -7,7 +7,7 @@ use denote.Ref.{now}
 use Rattle.text_rules.specs.Bytes.{putAt}
 use Rattle.text_rules.specs.WriterLaws.{Puts, puts-all, puts-none, puts-sized, puts-then}
 use Rattle.functions.specs.Shown.{limitsOf}
-use Rattle.listing.specs.Texts.{counted-length}
+use Rattle.listing.specs.Texts.{regression-count-length}
 use Rattle.gate_check.specs.Texts.{verdict-none, verdict-some, verdict-text, verdictParts, worseIn}
 use borrow.Author.Needs.{needs}
 use Rattle.gate_check.proofs.put_verdict.Statement.{statement}
@@ -49,7 +49,7 @@ returns-2 c =
     let lines = worseIn (limitsOf (a .limits)) (now (a .tree)) (now (a .lines)) in
     let text = verdict-text (a .count) lines (s .pre .1) (omega (arith, c .before .before .before .before .before .before .before .before .if1 .left)) in
     let parts : Puts (a .at) (now (a .output)) (verdictParts (a .count) lines) _ _ =
-    puts-sized (counted-length (a .count)) (first .put-counted .ensures) (puts-then (second .put-all .ensures) puts-none) in
+    puts-sized (regression-count-length (a .count)) (first .put-counted .ensures) (puts-then (second .put-all .ensures) puts-none) in
     let all = puts-all parts (ap length text) (s .pre .2) in
     (all .0, all .1 ∙ ap (λ t. putAt (a .at) t (now (a .output))) text)
 
