@@ -3,7 +3,7 @@ use Prim.Native.Nat.{ℕ, zero, suc, _+_, _≤_, _<_}
 use mathlib.Core.Path.{_≡_, refl, ap, ap₂, subst, sym, _∙_}
 use mathlib.Core.Bool.{true}
 use mathlib.Core.List.{List, [], _∷_, _++_, map, append-assoc}
-use mathlib.Core.Option.{Option, none, some, Option·none-ne-some, Option·some-injective}
+use mathlib.Core.Option.{none, some, Option·none-ne-some, Option·some-injective}
 use native.Mathlib.Numerals.{add-one}
 use native.Mathlib.Omega.{arith}
 use lib.ListN.{length, take, drop, getD, drop-of-length-le, length-append, length-map}

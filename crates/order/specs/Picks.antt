@@ -1,22 +1,21 @@
 -- The elements of a list that pass a test, in a given order, as a loop takes them: each by its place in the list, ties by place. They are what `sort` gives.
 use Prim.Native.Nat.{ℕ, zero, suc, _+_, _<_, _≤_}
-use mathlib.Core.Path.{_≡_, refl, ap, ap₂, sym, _∙_, subst}
-use mathlib.Core.Logic.{_⊎_, inl, inr, _↔_}
-use mathlib.Core.Bool.{Bool, true, false, not, _&&_, _||_, or-true}
-use mathlib.Core.List.{List, [], _∷_, _++_, map, List·Memᴰ·head, List·Memᴰ·tail}
-use mathlib.Core.Option.{Option, none, some}
+use mathlib.Core.Path.{_≡_, refl, ap, sym, _∙_, subst}
+use mathlib.Core.Logic.{_⊎_, inl, inr}
+use mathlib.Core.Bool.{Bool, true, false, not, or-true}
+use mathlib.Core.List.{List, [], _∷_, _++_, map}
+use mathlib.Core.Option.{Option}
 use native.Mathlib.Omega.{arith}
 use native.Mathlib.Numerals.{add-one}
-use lib.Dec.{ltb}
 use lib.ListN.{length, take, drop, getD, take-append-drop}
 use borrow.Author.Tests.{lt-ltb, ltb-true, not-true}
 use Rattle.text_rules.specs.ByteOrder.{Orders}
-use Rattle.text_rules.specs.Bytes.{All, _∈_, if_then_else_, kept}
+use Rattle.text_rules.specs.Bytes.{All, if_then_else_, kept}
 use Rattle.text_rules.specs.BytesLaws.{All-map, and-left, and-right, kept-iff, or-cases, true-false, whether}
 use Rattle.text_rules.specs.Order.{insert, sort}
 use Rattle.text_rules.specs.OrderLaws.{sort-in}
 use Rattle.text_rules.specs.Selection.{Placed, Rising, ahead, ahead-asym, lessWhat, placedFrom, sort-rising, sort-what}
-use Rattle.text_rules.specs.SortLaws.{Ascending, StableSort, sort-stable}
+use Rattle.text_rules.specs.SortLaws.{Ascending, sort-stable}
 use Rattle.order.specs.Best.{After, Best, Exactly, headOf, lastOf, next-is}
 
 -- what is taken out of a list in order is in order: sorting what passes a test is the same before and after

@@ -7,10 +7,10 @@ use mathlib.Core.List.{List, [], _∷_, _++_, map}
 use mathlib.Core.Option.{Option, none, some}
 use lib.ListN.{length, take, drop, take-append-drop}
 use Rattle.text_rules.specs.ByteOrder.{before-orders}
-use Rattle.text_rules.specs.Bytes.{All, _∈_, among, before, kept}
+use Rattle.text_rules.specs.Bytes.{All, among, before, kept}
 use Rattle.text_rules.specs.BytesLaws.{All-in, All-map, kept-iff, whether}
 use Rattle.text_rules.specs.Selection.{Rising}
-use Rattle.gate_rules.specs.Baseline.{Entry, entriesOfLines, entryKey, entryOf}
+use Rattle.gate_rules.specs.Baseline.{Entry, entriesOfLines, entryKey}
 use Rattle.gate_rules.specs.Check.{stale}
 use Rattle.gate_rules.specs.Functions.{Fun, key}
 use Rattle.gate_rules.specs.Gate.{gate}

@@ -1,5 +1,4 @@
 -- `complexity::complexity_check` meets its contract: it is the call check, with its counts put.
-use mathlib.Core.Path.{_≡_}
 use mathlib.Core.List.{[], _∷_}
 use denote.Ref.{now}
 use borrow.Author.Needs.{needs}

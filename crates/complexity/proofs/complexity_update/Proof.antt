@@ -1,5 +1,4 @@
 -- `complexity::complexity_update` meets its contract: it is the call update, with its counts put.
-use mathlib.Core.Path.{_≡_}
 use mathlib.Core.List.{[], _∷_}
 use denote.Ref.{now}
 use borrow.Author.Needs.{needs}

@@ -1,6 +1,6 @@
 -- `functions::function_at` meets its contract: the numbers that are read are those of the record with the number, and path and name lie in the tree.
 use Prim.Native.Nat.{_+_}
-use mathlib.Core.Path.{_≡_, refl, ap, ap₂, sym, _∙_}
+use mathlib.Core.Path.{ap, ap₂, _∙_}
 use native.Mathlib.Omega.{arith}
 use denote.Ref.{now}
 use borrow.Author.Needs.{needs}

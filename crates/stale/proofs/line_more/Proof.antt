@@ -1,5 +1,5 @@
 -- `stale::line_more` meets its contract: a line with an entry brings its key, and one without brings none.
-use mathlib.Core.Path.{_≡_, ap, subst, sym, _∙_}
+use mathlib.Core.Path.{ap, subst, sym, _∙_}
 use mathlib.Core.List.{map, _++_}
 use denote.Ref.{now}
 use borrow.Author.Needs.{needs}

@@ -16,7 +16,7 @@ use Rattle.gate_rules.specs.Check.{listed, spaced, stale}
 use Rattle.gate_rules.specs.Gate.{gate}
 use Rattle.gate_rules.specs.Scan.{functionsOf}
 use Rattle.stale.specs.Taken.{staleIn}
-use Rattle.stale.proofs.Taking.{TakenTo, all-taken, bounds, bytes-next, keyLines, lines-most, lines-next, more, part-length, taken-more, taken-none}
+use Rattle.stale.proofs.Taking.{TakenTo, all-taken, bounds, bytes-next, keyLines, lines-most, lines-next, part-length, taken-more, taken-none}
 use Rattle.stale.proofs.put_all.Statement.{statement}
 use Rattle.stale.proofs.put_all.Tie as tie
 
