@@ -252,6 +252,17 @@ fn accepted(tree: &[u8], f: Function, lines: &[u8]) -> Accepted
     baseline::lookup(lines, &tree[from..to], &tree[start..end])
 }
 
+// Two sizes together.
+fn both(a: Size, b: Size) -> Size
+    requires { ⌜ (a .count ≤ 1) × (a .bytes ≤ 40000000) × (b .count ≤ 1) × (b .bytes ≤ 40000000) ⌝ }
+    ensures { λ r. ⌜ (r .count ≡ a .count + b .count) × (r .bytes ≡ a .bytes + b .bytes) ⌝ }
+{
+    Size {
+        count: a.count + b.count,
+        bytes: a.bytes + b.bytes,
+    }
+}
+
 // The size of the lines of a listed function: it may have two.
 fn grown_size(f: Function, m: Recorded) -> Size
     requires { ⌜ Small f ⌝ }
@@ -259,10 +270,7 @@ fn grown_size(f: Function, m: Recorded) -> Size
 {
     let branches = branches_size(f, m);
     let lines = lines_size(f, m);
-    Size {
-        count: branches.count + lines.count,
-        bytes: branches.bytes + lines.bytes,
-    }
+    both(branches, lines)
 }
 
 // The lines of a listed function.
