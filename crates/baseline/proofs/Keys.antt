@@ -1,4 +1,4 @@
--- Texts compared byte by byte, and a key compared without a copy of it.
+-- A key compared without a copy of it.
 use Prim.Native.Nat.{ℕ, suc, _+_, _≤_, _<_}
 use mathlib.Core.Path.{_≡_, refl, ap, ap₂, _∙_}
 use mathlib.Core.Logic.{inl, inr}
@@ -12,30 +12,6 @@ use borrow.Author.Tests.{eq-eqb, ne-eqb}
 use Rattle.text_rules.specs.Bytes.{same}
 use Rattle.text_rules.specs.BytesLaws.{whether}
 use Rattle.text_rules.specs.ScanLaws.{split}
-
-pub same-lengths : (s t : List ℕ) → (length s ≡ length t → ⊥) → same s t ≡ false
-same-lengths [] [] h = absurd (h refl)
-same-lengths [] (y ∷ t) h = refl
-same-lengths (x ∷ s) [] h = refl
-same-lengths (x ∷ s) (y ∷ t) h =
-    elim (whether (eqb x y)) [
-      | inl e ↦ rw e (same-lengths s t (λ q. h (ap suc q)))
-      | inr e ↦ rw e
-    ]
-
-module _ (s t : List ℕ) (i : ℕ) where
-  module _ (h : i < length s) (k : i < length t) where
-    same-step : same (drop i s) (drop i t) ≡ (eqb (getD s i 0) (getD t i 0) && same (drop (i + 1) s) (drop (i + 1) t))
-    same-step = ap₂ same (split s i h) (split t i k)
-
-    pub same-other : (getD s i 0 ≡ getD t i 0 → ⊥) → same (drop i s) (drop i t) ≡ false
-    same-other n = same-step ∙ rw (ne-eqb (getD s i 0) (getD t i 0) n)
-
-    pub same-next : getD s i 0 ≡ getD t i 0 → same (drop i s) (drop i t) ≡ same (drop (i + 1) s) (drop (i + 1) t)
-    same-next e = same-step ∙ rw (eq-eqb (getD s i 0) (getD t i 0) e)
-
-  pub same-end : length s ≤ i → length t ≤ i → same (drop i s) (drop i t) ≡ true
-  same-end h k = ap₂ same (drop-of-length-le s h) (drop-of-length-le t k)
 
 -- a text against path, tab and name
 pub key-short : (s p n : List ℕ) → length s ≤ length p → same s (p ++ 9 ∷ n) ≡ false

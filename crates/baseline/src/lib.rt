@@ -204,23 +204,6 @@ pub fn entry(line: &[u8]) -> Line
     measured(line, a, b, c, d)
 }
 
-// Whether two texts are the same.
-fn same_bytes(s: &[u8], t: &[u8]) -> bool
-    ensures { λ r. ⌜ r ≡ same (now (s .entry)) (now (t .entry)) ⌝ }
-{
-    if s.len() != t.len() {
-        return false;
-    }
-    let mut i = 0;
-    while i < s.len() {
-        if s[i] != t[i] {
-            return false;
-        }
-        i += 1;
-    }
-    true
-}
-
 // Whether the bytes are those of path, tab and name.
 fn is_key(key: &[u8], path: &[u8], name: &[u8]) -> bool
     ensures { λ r. ⌜ r ≡ same (now (key .entry)) (keyOf (now (path .entry)) (now (name .entry))) ⌝ }
@@ -232,10 +215,10 @@ fn is_key(key: &[u8], path: &[u8], name: &[u8]) -> bool
     if key[n] != TAB {
         return false;
     }
-    if !same_bytes(&key[..n], path) {
+    if !order::same_bytes(&key[..n], path) {
         return false;
     }
-    same_bytes(&key[n + 1..], name)
+    order::same_bytes(&key[n + 1..], name)
 }
 
 // The measures that an entry accepts.

@@ -1,0 +1,40 @@
+// Two texts compared byte by byte: whether they are the same, and which stands first in byte order.
+ghost use mathlib.Core.Path.{_≡_};
+ghost use Rattle.text_rules.specs.Bytes.{before, same};
+
+// Whether two texts are the same.
+pub fn same_bytes(s: &[u8], t: &[u8]) -> bool
+    ensures { λ r. ⌜ r ≡ same (now (s .entry)) (now (t .entry)) ⌝ }
+{
+    if s.len() != t.len() {
+        return false;
+    }
+    let mut i = 0;
+    while i < s.len() {
+        if s[i] != t[i] {
+            return false;
+        }
+        i += 1;
+    }
+    true
+}
+
+// The first text stands before the second. A text that ends stands before one that goes on.
+pub fn before(s: &[u8], t: &[u8]) -> bool
+    ensures { λ r. ⌜ r ≡ before (now (s .entry)) (now (t .entry)) ⌝ }
+{
+    let mut i = 0;
+    while i < t.len() {
+        if s.len() <= i {
+            return true;
+        }
+        if s[i] < t[i] {
+            return true;
+        }
+        if s[i] != t[i] {
+            return false;
+        }
+        i += 1;
+    }
+    false
+}
