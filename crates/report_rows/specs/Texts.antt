@@ -81,6 +81,9 @@ pub row-length : (path name : List ℕ) (m : Measures) → length (joined (measu
 row-length path name m =
     joined-length (measured m ∷ located path (m .line) name ∷ ascii "\n" ∷ []) ∙ (omega (arith, measured-length m, located-length path (m .line) name))
 
+pub row-size : (path name : List ℕ) (m : Measures) → length (reportRow (funOf path name m)) ≡ rowLength path name m
+row-size path name m = ap length (row-is path name m) ∙ row-length path name m
+
 -- a file's row
 abbrev pub weightRow : ℕ → List ℕ → List ℕ
 weightRow sum path = joined (justified 6 (decimal sum) ∷ ascii "  " ∷ path ∷ ascii "\n" ∷ [])
