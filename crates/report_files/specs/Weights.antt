@@ -39,7 +39,6 @@ weightAt tree k = getD (listed tree) k noWeight
 -- the sums that are known are those of an unrefused tree
 pub record Known (tree of : List ℕ) : Type 0 where
   pub unrefused : treeRefusal tree ≡ 0
-  pub size : length of ≡ 1024
   pub sums : Sums tree of
 
 -- those with a function, in their order

@@ -114,4 +114,4 @@ module _ (tree : List ℕ) where
             ]
 
   pub added-all : (k : ℕ) (of : List ℕ) → Added k of → length (records tree) ≤ k → Sums tree of
-  added-all k of a h = record { sum-of = λ j l. a .sums j l ∙ ap (sumOver j) (take-all k (records tree) h) }
+  added-all k of a h = record { size = a .size; sum-of = λ j l. a .sums j l ∙ ap (sumOver j) (take-all k (records tree) h) }

@@ -24,6 +24,7 @@ told e = record { file = e .file; sum = e .sum }
 
 -- at each number below 1,024 stands the sum of the file with that number
 pub record Sums (tree of : List ℕ) : Type 0 where
+  pub size : length of ≡ 1024
   pub sum-of : (k : ℕ) → k < 1024 → getD of k 0 ≡ sumOver k (records tree)
 
 -- the first n entries

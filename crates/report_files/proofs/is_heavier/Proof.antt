@@ -13,13 +13,13 @@ mul-sum : tie.Need-mul-sum
 mul-sum c = let s = c .before .before in omega (arith, known-few (now (s .args .tree)) (now (s .args .of)) (s .pre .0))
 
 shared-slice-read-sum : tie.Need-shared-slice-read-sum
-shared-slice-read-sum c = let s = c .before .before .before in omega (arith, known-few (now (s .args .tree)) (now (s .args .of)) (s .pre .0), s .pre .0 .size)
+shared-slice-read-sum c = let s = c .before .before .before in omega (arith, known-few (now (s .args .tree)) (now (s .args .of)) (s .pre .0), s .pre .0 .sums .size)
 
 mul-other : tie.Need-mul-other
 mul-other c = let s = c .before .before .before in omega (arith, known-few (now (s .args .tree)) (now (s .args .of)) (s .pre .0))
 
 shared-slice-read-other : tie.Need-shared-slice-read-other
-shared-slice-read-other c = let s = c .before .before .before .before in omega (arith, known-few (now (s .args .tree)) (now (s .args .of)) (s .pre .0), s .pre .0 .size)
+shared-slice-read-other c = let s = c .before .before .before .before in omega (arith, known-few (now (s .args .tree)) (now (s .args .of)) (s .pre .0), s .pre .0 .sums .size)
 
 returns : tie.Need-returns
 returns c =

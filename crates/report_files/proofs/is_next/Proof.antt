@@ -14,7 +14,7 @@ mul-if1 : tie.Need-mul-if1
 mul-if1 c = let s = c .before .before in omega (arith, known-few (now (s .args .tree)) (now (s .args .of)) (s .pre .0))
 
 shared-slice-read-if1 : tie.Need-shared-slice-read-if1
-shared-slice-read-if1 c = let s = c .before .before .before in omega (arith, known-few (now (s .args .tree)) (now (s .args .of)) (s .pre .0), s .pre .0 .size)
+shared-slice-read-if1 c = let s = c .before .before .before in omega (arith, known-few (now (s .args .tree)) (now (s .args .of)) (s .pre .0), s .pre .0 .sums .size)
 
 returns : tie.Need-returns
 returns c =

@@ -14,7 +14,7 @@ mul-sum : tie.Need-mul-sum
 mul-sum c = let s = c .before .before .before in omega (arith, known-few (now (s .args .tree)) (now (s .args .of)) (s .pre .0))
 
 shared-slice-read-sum : tie.Need-shared-slice-read-sum
-shared-slice-read-sum c = let s = c .before .before .before .before in omega (arith, known-few (now (s .args .tree)) (now (s .args .of)) (s .pre .0), s .pre .0 .size)
+shared-slice-read-sum c = let s = c .before .before .before .before in omega (arith, known-few (now (s .args .tree)) (now (s .args .of)) (s .pre .0), s .pre .0 .sums .size)
 
 path-at-requires : tie.Need-path-at-requires
 path-at-requires c κs = let s = c .before .before .before .before .before in (known-laid (now (s .args .tree)) (now (s .args .of)) (s .pre .0), s .pre .1)
