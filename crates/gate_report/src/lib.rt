@@ -1,6 +1,6 @@
 // The report: how many functions a tree has, their mean, the rows of those over the limits, the ten heaviest files, and a table of sums.
 ghost use mathlib.Core.Path.{_≡_};
-ghost use mathlib.Core.List.{List};
+ghost use mathlib.Core.List.{List, map};
 ghost use Prim.Native.Nat.{ℕ, _+_, _≤_};
 ghost use lib.ListN.{length};
 ghost use Rattle.text_rules.specs.Bytes.{overwritten, putAt};
@@ -15,12 +15,14 @@ ghost use Rattle.report_files.specs.Weights.{Known};
 ghost use Rattle.report_functions.specs.Counting.{Counted};
 ghost use Rattle.report_rows.specs.Texts.{headLength};
 ghost use Rattle.gate_report.specs.Listed.{Listed};
-ghost use Rattle.gate_report.specs.Reports.{Cored, earlyNumber};
+ghost use Rattle.gate_report.specs.Reports.{Cored, Reports, earlyNumber};
+ghost use Rattle.sums.specs.Sums.{told};
 ghost use Rattle.gate_report.specs.Text.{firstPart, lastPart};
 use answers::Answer;
 use functions::Limits;
 use report_files::Heaviest;
 use report_functions::Counts;
+use sums::FileSum;
 use sums::Totals;
 
 // The bytes of the line before the files.
@@ -200,4 +202,23 @@ pub fn report_core(
         return stopped(8);
     }
     listed(limits, tree, lent, n, output)
+}
+
+// The report by other limits. The table is lent: one entry for each file is filled on success and with 9.
+pub fn report_with(
+    limits: Limits,
+    tree: &[u8],
+    work: &mut [u8],
+    lent: &mut [u8],
+    table: &mut [FileSum],
+    output: &mut [u8],
+) -> Answer
+    ensures { λ r. ⌜
+        Reports r (reportCall gate (limitsOf limits) (now (tree .entry)) (now (work .entry)) (now (lent .entry)) (map told (now (table .entry))) (now (output .entry)))
+        (now (work .exit)) (now (lent .exit)) (now (table .exit)) (now (output .exit))
+        ⌝ }
+{
+    let r = report_core(limits, tree, work, lent, table.len(), output);
+    sums::fill(table, r.totals, r.files);
+    r.answer
 }
