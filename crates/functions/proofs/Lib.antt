@@ -1,2 +1,2 @@
 -- The laws that the functions cite.
-mod Read
+pub mod Read
