@@ -22,7 +22,7 @@ use Rattle.gate_rules.specs.Tree.{fileCount, sources, sourcesFrom, treeRefusal}
 use Rattle.gate_rules.specs.TreeLaws.{laid-out, unrefused}
 use Rattle.answers.specs.declared.Answer.{Answer}
 use Rattle.gate_scan.specs.Scans.{blankedWork, filled}
-use Rattle.sums.specs.Sums.{firstEntries, stored, told}
+use Rattle.sums.specs.Sums.{firstEntries, none, stored, told}
 use Rattle.sums.specs.Table.{entries-are}
 use Rattle.sums.specs.declared.FileSum.{FileSum}
 use Rattle.gate_report.specs.Listed.{Listed, lateNumber}
@@ -286,3 +286,39 @@ module _ (L : Limits) (tree work records : List ℕ) (table : List FileSum) (out
         sums-is = ap (map told) (e ∙ ap (λ es. overwritten es table) (d .filled-is)) ∙ told-overwritten (sumsAt n tree) table ∙ sums-after n tree (map told table);
         output-is = d .output-is;
       }
+
+-- what a report with a table of its own answers and leaves
+pub record ReportsAlone (r : Answer) (c : Reported) (work records output : List ℕ) : Type 0 where
+  pub number-is : r .number ≡ c .answer .number
+  pub written-is : r .written ≡ c .answer .written
+  pub functions-is : r .functions ≡ c .answer .functions
+  pub work-is : work ≡ c .work
+  pub records-is : records ≡ c .records
+  pub output-is : output ≡ c .output
+
+-- a table of zeros, as it is stored
+pub zeros-told : (n : ℕ) → map told (replicate n none) ≡ anyTable n
+zeros-told zero = refl
+zeros-told (suc n) = ap (λ es. noSum ∷ es) (zeros-told n)
+
+pub reports-alone : (r : Answer) (L : Limits) (tree work records output w l o : List ℕ) (left : List FileSum)
+    → Reports r (reportCall gate L tree work records (map told (replicate 1024 none)) output) w l left o → ReportsAlone r (reportCall gate L tree work records (anyTable 1024) output) w l o
+reports-alone r L tree work records output w l o left d =
+    let e = subst (λ t. Reports r (reportCall gate L tree work records t output) w l left o) (zeros-told 1024) d in
+    record {
+      number-is = e .number-is;
+      written-is = e .written-is;
+      functions-is = e .functions-is;
+      work-is = e .work-is;
+      records-is = e .records-is;
+      output-is = e .output-is;
+    }
+
+-- by limits that are equal to those
+pub reports-by : (r : Answer) (K L : Limits) (tree work records : List ℕ) (t : List rules.FileSum) (output w l : List ℕ) (left : List FileSum) (o : List ℕ) → K ≡ L
+    → Reports r (reportCall gate K tree work records t output) w l left o → Reports r (reportCall gate L tree work records t output) w l left o
+reports-by r K L tree work records t output w l left o e d = subst (λ M. Reports r (reportCall gate M tree work records t output) w l left o) e d
+
+pub alone-by : (r : Answer) (K L : Limits) (tree work records : List ℕ) (t : List rules.FileSum) (output w l o : List ℕ) → K ≡ L
+    → ReportsAlone r (reportCall gate K tree work records t output) w l o → ReportsAlone r (reportCall gate L tree work records t output) w l o
+alone-by r K L tree work records t output w l o e d = subst (λ M. ReportsAlone r (reportCall gate M tree work records t output) w l o) e d

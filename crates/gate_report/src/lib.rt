@@ -222,3 +222,19 @@ pub fn report_with(
     sums::fill(table, r.totals, r.files);
     r.answer
 }
+
+// The call report: the refusals 1 to 6, 8 and 9; the report by the gate's limits, and the sums of the files.
+pub fn report(
+    tree: &[u8],
+    work: &mut [u8],
+    lent: &mut [u8],
+    table: &mut [FileSum],
+    output: &mut [u8],
+) -> Answer
+    ensures { λ r. ⌜
+        Reports r (reportCall gate gateLimits (now (tree .entry)) (now (work .entry)) (now (lent .entry)) (map told (now (table .entry))) (now (output .entry)))
+        (now (work .exit)) (now (lent .exit)) (now (table .exit)) (now (output .exit))
+        ⌝ }
+{
+    report_with(functions::gate_limits(), tree, work, lent, table, output)
+}
