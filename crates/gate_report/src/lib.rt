@@ -15,7 +15,7 @@ ghost use Rattle.report_files.specs.Weights.{Known};
 ghost use Rattle.report_functions.specs.Counting.{Counted};
 ghost use Rattle.report_rows.specs.Texts.{headLength};
 ghost use Rattle.gate_report.specs.Listed.{Listed};
-ghost use Rattle.gate_report.specs.Reports.{Cored, Reports, earlyNumber};
+ghost use Rattle.gate_report.specs.Reports.{Cored, Reports, ReportsAlone, anyTable, earlyNumber};
 ghost use Rattle.sums.specs.Sums.{told};
 ghost use Rattle.gate_report.specs.Text.{firstPart, lastPart};
 use answers::Answer;
@@ -237,4 +237,31 @@ pub fn report(
         ⌝ }
 {
     report_with(functions::gate_limits(), tree, work, lent, table, output)
+}
+
+// The report by other limits, with a table of its own: whoever calls it holds no table.
+pub fn report_alone_with(
+    limits: Limits,
+    tree: &[u8],
+    work: &mut [u8],
+    lent: &mut [u8],
+    output: &mut [u8],
+) -> Answer
+    ensures { λ r. ⌜
+        ReportsAlone r (reportCall gate (limitsOf limits) (now (tree .entry)) (now (work .entry)) (now (lent .entry)) (anyTable 1024) (now (output .entry)))
+        (now (work .exit)) (now (lent .exit)) (now (output .exit))
+        ⌝ }
+{
+    let mut table = [FileSum { file: 0, sum: 0 }; 1024];
+    report_with(limits, tree, work, lent, &mut table, output)
+}
+
+// The report with a table of its own.
+pub fn report_alone(tree: &[u8], work: &mut [u8], lent: &mut [u8], output: &mut [u8]) -> Answer
+    ensures { λ r. ⌜
+        ReportsAlone r (reportCall gate gateLimits (now (tree .entry)) (now (work .entry)) (now (lent .entry)) (anyTable 1024) (now (output .entry)))
+        (now (work .exit)) (now (lent .exit)) (now (output .exit))
+        ⌝ }
+{
+    report_alone_with(functions::gate_limits(), tree, work, lent, output)
 }
