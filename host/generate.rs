@@ -18,16 +18,62 @@ impl Random {
     }
 }
 
-const PATHS: [&str; 14] = [
-    "a.rs", "a/b.rs", "a-b.rs", "a/mod.rs", "a.rs.rs", "A.rs", "é.rs", "a b.rs", "b/a/c.rs", "b.txt", "rs", ".rs", "#.rs", "a.rs/c.rs",
-];
+const PATHS: [&str; 14] =
+    ["a.rs", "a/b.rs", "a-b.rs", "a/mod.rs", "a.rs.rs", "A.rs", "é.rs", "a b.rs", "b/a/c.rs", "b.txt", "rs", ".rs", "#.rs", "a.rs/c.rs"];
 const NAMES: [&str; 5] = ["f", "g", "new", "a_1", "r#if"];
 const PIECES: [&str; 40] = [
-    "if x {", "}", "while x {", "}", "for i in y {", "}", "loop {", "}", "match x { 1 => 2, _ => 3 }", "x && y", "x || y", "z?", "{", "}",
-    "\n", "\n\n\n", "\"s { \\\" \"", "r#\"{ \" }\"#", "'{'", "'\\''", "'a", "é", "// c { \"\n", "/* { /* } */ */", "/*", "\"", "#[cfg(test)]",
-    "mod t {", "fn h() {}", "fn", "(", ")", "<", ">", ";", "-> [u8; 3]", "struct S { a: u8 }", "\t", "\r\n", "????????????????",
+    "if x {",
+    "}",
+    "while x {",
+    "}",
+    "for i in y {",
+    "}",
+    "loop {",
+    "}",
+    "match x { 1 => 2, _ => 3 }",
+    "x && y",
+    "x || y",
+    "z?",
+    "{",
+    "}",
+    "\n",
+    "\n\n\n",
+    "\"s { \\\" \"",
+    "r#\"{ \" }\"#",
+    "'{'",
+    "'\\''",
+    "'a",
+    "é",
+    "// c { \"\n",
+    "/* { /* } */ */",
+    "/*",
+    "\"",
+    "#[cfg(test)]",
+    "mod t {",
+    "fn h() {}",
+    "fn",
+    "(",
+    ")",
+    "<",
+    ">",
+    ";",
+    "-> [u8; 3]",
+    "struct S { a: u8 }",
+    "\t",
+    "\r\n",
+    "????????????????",
 ];
-const PARAMETERS: [&str; 9] = ["", "x: u8", "&self", "&mut self, x: u8", "a: A<B, C>, b: [u8; 2],", "a,b,c,d,e,f,g", "a,b,c,d,e,f,g,h", "self", "f: fn() -> u8, x: u8"];
+const PARAMETERS: [&str; 9] = [
+    "",
+    "x: u8",
+    "&self",
+    "&mut self, x: u8",
+    "a: A<B, C>, b: [u8; 2],",
+    "a,b,c,d,e,f,g",
+    "a,b,c,d,e,f,g,h",
+    "self",
+    "f: fn() -> u8, x: u8",
+];
 
 fn function(random: &mut Random, text: &mut String) {
     text.push_str("fn ");
@@ -77,7 +123,16 @@ fn baseline(random: &mut Random) -> String {
         let end = random.pick(&["\n", "\n", "\n", "\r\n", "\tmore\n", "\r", ""]);
         match random.below(10) {
             0 => lines.push_str("# a comment"),
-            1 => lines.push_str(random.pick(&["", "  ", "\u{3000}", "src/a.rs", "src/a.rs\tf", "\t\t\t", "src/a.rs\tf\t-1\t2", "x\ty\t1\t99999999999999999999"])),
+            1 => lines.push_str(random.pick(&[
+                "",
+                "  ",
+                "\u{3000}",
+                "src/a.rs",
+                "src/a.rs\tf",
+                "\t\t\t",
+                "src/a.rs\tf\t-1\t2",
+                "x\ty\t1\t99999999999999999999",
+            ])),
             _ => {
                 let (cyclomatic, length) = (random.below(24), random.below(110));
                 let sign = random.pick(&["", "", "", "+", "0", " "]);
