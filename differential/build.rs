@@ -8,14 +8,15 @@ const CALLS: [&str; 5] = ["blank", "scan", "check", "update", "report"];
 fn main() {
     let root = Path::new(env!("CARGO_MANIFEST_DIR")).parent().expect("the project").to_path_buf();
     let out = PathBuf::from(std::env::var("OUT_DIR").expect("cargo's folder"));
-    let source = std::env::var("COMPLEXITY_RS")
-        .map_or_else(|_| root.join("../shared/docs/src/src/bin/complexity.rs"), PathBuf::from);
+    let source =
+        std::env::var("COMPLEXITY_RS").map_or_else(|_| root.join("../shared/docs/src/src/bin/complexity.rs"), PathBuf::from);
     let library = root.join("target/staticlib/libcomplexity.a");
     let script = root.join("differential/oracle");
     for path in [&source, &library, &script] {
         std::println!("cargo:rerun-if-changed={}", path.display());
     }
     std::println!("cargo:rerun-if-env-changed=COMPLEXITY_RS");
+    std::println!("cargo:rustc-env=ORIGINAL={}", source.display());
 
     let made = out.join("oracle.rs");
     let done = Command::new(&script).arg(&source).arg(&made).status().expect("differential/oracle runs");

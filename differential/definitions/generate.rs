@@ -14,13 +14,13 @@ use std::fmt::Write as _;
 #[macro_use]
 mod memory;
 #[allow(dead_code)]
-mod oracle;
-#[allow(dead_code)]
-mod original;
+mod inputs;
 #[allow(dead_code)]
 mod model;
 #[allow(dead_code)]
-mod inputs;
+mod oracle;
+#[allow(dead_code)]
+mod original;
 
 use inputs::{lent_size, text, tree_bytes, Random};
 use model::{after, Lent, Need, Tree, RECORD_WIDTH};

@@ -202,12 +202,8 @@ pub fn compare(name: Name, tree: &Tree, baseline: &[u8], slack: Slack) -> Result
     let number = tree.number(&lent, &need);
     let expected = model::after(tree, &lent, number, &listing, &numbers);
 
-    let mut slices = Slices {
-        work: work.part_mut(),
-        records: records.part_mut(),
-        output: output.part_mut(),
-        counts: counts.part_mut(),
-    };
+    let mut slices =
+        Slices { work: work.part_mut(), records: records.part_mut(), output: output.part_mut(), counts: counts.part_mut() };
     let answered = match name {
         Name::Scan => library::scan(input.part(), &mut slices),
         Name::Check => library::check(input.part(), base.part(), &mut slices),

@@ -4,11 +4,12 @@ use std::fmt::Write as _;
 
 use crate::calls::Slack;
 use crate::inputs::{
-    self, baseline, damage_files, damage_tree, insert, laid_out, limit_function, ordered, path, small_function, token, tree_bytes,
-    Plain, Random, NOT_UTF8,
+    self, baseline, damage_files, damage_tree, insert, laid_out, limit_function, ordered, path, small_function, token,
+    tree_bytes, Plain, Random, NOT_UTF8,
 };
 use crate::model::{entry_at, MAX_BASELINE, MAX_FILES, MAX_FUNCTIONS, MAX_PATH, MAX_TREE};
 use crate::original::update_text;
+use crate::sources::Sources;
 
 #[derive(Clone, Copy, Debug, PartialEq, Eq, PartialOrd, Ord)]
 pub enum Kind {
@@ -28,7 +29,8 @@ pub const KINDS: [Kind; 8] =
 impl Kind {
     pub fn of(case: usize) -> Kind {
         match case {
-            k if k % 250_000 == 1_000 => Kind::Huge,
+            // six of them take a second each
+            k if k % 250_000 < 6_000 && k % 1_000 == 500 => Kind::Huge,
             k if k % 2_000 == 1_999 => Kind::Limits,
             k => match k % 100 {
                 0..=29 => Kind::Short,
@@ -61,11 +63,6 @@ pub enum Subject {
     Tree(Vec<u8>, Vec<u8>),
 }
 
-pub struct Sources {
-    pub original: String,
-    pub files: Vec<Vec<u8>>,
-}
-
 pub fn subject(kind: Kind, seed: u64, case: usize, sources: &Sources) -> (Subject, Random) {
     let mut random = Random::of(seed, kind as u64, case);
     let r = &mut random;
@@ -92,7 +89,7 @@ pub fn subject(kind: Kind, seed: u64, case: usize, sources: &Sources) -> (Subjec
         Kind::Report => Subject::Tree(laid_out(&report_files(r)), Vec::new()),
         Kind::Broken => Subject::Tree(broken(r, sources), Vec::new()),
         Kind::Limits => limits(r, case / 2_000),
-        Kind::Huge => huge(r, case / 250_000),
+        Kind::Huge => huge(r, case % 250_000 / 1_000),
     };
     (subject, random)
 }
@@ -140,8 +137,8 @@ fn short(k: usize) -> String {
 }
 
 /// A real file or a part of it: bytes taken out, doubled, swapped, cut, tokens put in.
-fn damaged_file(r: &mut Random, files: &[Vec<u8>]) -> Vec<u8> {
-    let file = &files[r.below(files.len())];
+fn damaged_file(r: &mut Random, files: &[String]) -> Vec<u8> {
+    let file = files[r.below(files.len())].as_bytes();
     let size = match r.below(20) {
         0 => file.len(),
         1..=4 => r.between(1, 10_000),
@@ -335,7 +332,8 @@ fn report_files(r: &mut Random) -> Vec<Plain> {
     }
     let mut files: Vec<Plain> = Vec::new();
     for (k, text) in texts.into_iter().enumerate() {
-        let path = if r.chance(50) { path(r) } else { format!("src/{}{k}.rs", r.pick(&["", "a/", "a.", "A", "é"])).into_bytes() };
+        let path =
+            if r.chance(50) { path(r) } else { format!("src/{}{k}.rs", r.pick(&["", "a/", "a.", "A", "é"])).into_bytes() };
         files.push((path, text.into_bytes()));
     }
     ordered(files)
@@ -432,7 +430,7 @@ fn limits(r: &mut Random, turn: usize) -> Subject {
             numbered(12, |k| text[k].clone())
         }
     };
-    let short = files.len() < 100 && files.iter().all(|f| f.1.len() < 20_000);
+    let short = files.len() < 100 && files.iter().all(|f| f.1.len() < 60_000);
     let text = if short { baseline(r, &files, "") } else { Vec::new() };
     Subject::Tree(laid_out(&files), text)
 }

@@ -599,4 +599,3 @@ pub fn lent_size(r: &mut Random, needed: usize) -> usize {
         _ => needed / 2,
     }
 }
-

@@ -17,9 +17,10 @@ mod library;
 #[allow(dead_code)]
 mod model;
 mod original;
+mod sources;
 
 use calls::{compare, compare_blank, Name, NAMES};
-use cases::{slack, subject, Kind, Sources, Subject, KINDS};
+use cases::{slack, subject, Kind, Subject, KINDS};
 use failures::Failure;
 use inputs::{laid_out, Random};
 use model::Tree;
@@ -34,37 +35,6 @@ struct Tally {
     functions: usize,
     with_function: usize,
     below: usize,
-}
-
-fn rust_files(folder: &Path, found: &mut Vec<PathBuf>) {
-    let Ok(entries) = std::fs::read_dir(folder) else {
-        return;
-    };
-    for entry in entries.flatten() {
-        let path = entry.path();
-        if path.is_dir() {
-            if !path.ends_with("target") && !path.ends_with(".git") {
-                rust_files(&path, found);
-            }
-        } else if path.extension().is_some_and(|e| e == "rs") {
-            found.push(path);
-        }
-    }
-}
-
-fn sources(root: &Path) -> Sources {
-    let original = std::env::var("COMPLEXITY_RS")
-        .map_or_else(|_| root.join("../shared/docs/src/src/bin/complexity.rs"), PathBuf::from);
-    let mut paths = Vec::new();
-    rust_files(&root.join("differential"), &mut paths);
-    let folder = original.parent().and_then(Path::parent).expect("a folder above the original's");
-    rust_files(folder, &mut paths);
-    paths.sort();
-    let Ok(text) = std::fs::read_to_string(&original) else {
-        eprintln!("differential: no file {}: set COMPLEXITY_RS to the path of complexity.rs", original.display());
-        std::process::exit(2);
-    };
-    Sources { original: text, files: paths.iter().filter_map(|p| std::fs::read(p).ok()).filter(|b| !b.is_empty()).collect() }
 }
 
 /// All calls on one subject.
@@ -118,7 +88,12 @@ fn show(tally: &Tally, started: Instant, differences: usize) {
         let there = if name.there() { "" } else { " (not in the library)" };
         std::println!("  {:6} {calls} calls{there}; numbers: {}", name.text(), answered.join(", "));
     }
-    std::println!("  functions {}, inputs with a function {}, texts whose parameter count falls below 0: {}", tally.functions, tally.with_function, tally.below);
+    std::println!(
+        "  functions {}, inputs with a function {}, texts whose parameter count falls below 0: {}",
+        tally.functions,
+        tally.with_function,
+        tally.below
+    );
     std::println!("differences: {differences}");
 }
 
@@ -133,7 +108,10 @@ fn main() {
         std::process::exit(failures::replay(Path::new(file)));
     }
     let seconds = number(3, u64::MAX >> 8);
-    let sources = sources(&root);
+    let Some(sources) = sources::read(&root) else {
+        eprintln!("differential: no file {}", env!("ORIGINAL"));
+        std::process::exit(2);
+    };
     let started = Instant::now();
     let mut told = started;
     let mut tally = Tally::default();
