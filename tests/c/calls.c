@@ -48,7 +48,7 @@ static void pack(size_t files, const char *const paths[], const char *const text
 
 static void blanking(void) {
     const char *text = "let a = \"x\n{\"; // }\nlet b = 'c';\n";
-    const char *blank = "let a =   \n   ;     \nlet b =    ;\n";
+    const char *blank = "let a =   \n  ;     \nlet b =    ;\n";
     size_t n = strlen(text);
     memset(output, 'z', ROOM);
     expect(complexity_blank((const uint8_t *)text, n, output, ROOM) == 0, "blank succeeds");
@@ -64,7 +64,7 @@ static void checking(void) {
     const char *const texts[] = {"fn small(x: u8) -> u8 {\n    if x > 1 { x } else { 1 }\n}\n",
                                  "fn wide(a: u8, b: u8, c: u8, d: u8, e: u8, f: u8, g: u8, h: u8) {}\n"};
     const char *pass = "complexity: no function got worse, nothing new is over the thresholds\n";
-    const char *fail = "complexity: 1 regressions\n  src/b.rs:1 wide is new and over: cyclomatic 1 lines 1 nesting 0 params 8\n";
+    const char *fail = "complexity: 1 regressions\n  src/b.rs:1 wide is new and over: cyclomatic 1 lines 1 nesting 1 params 8\n";
     const char *stale = "1 baseline entries no longer exist:\n  src/c.rs gone\nrun --update to drop them\n";
     pack(2, paths, texts);
 

@@ -5,16 +5,19 @@ ghost use mathlib.Core.List.{[], _∷_};
 ghost use Prim.Native.Nat.{_≤_};
 ghost use lib.ListN.{length};
 ghost use Rattle.text_rules.specs.Bytes.{_orElse_};
-ghost use Rattle.gate_rules.specs.Exports.{exportedBlank, exportedScan, exportedUpdate};
+ghost use Rattle.gate_rules.specs.Exports.{exportedBlank, exportedCheck, exportedScan, exportedUpdate};
 ghost use Rattle.gate_rules.specs.Functions.{gateLimits};
 ghost use Rattle.gate_rules.specs.Gate.{gate};
 ghost use Rattle.gate_rules.specs.Tree.{treeRefusal};
 ghost use Rattle.complexity.specs.Exported.{CountsPut, Ends, EndsBlank};
 use answers::Answer;
+use gate_check::CheckAnswer;
 use gate_update::UpdateAnswer;
 
-// The bytes of the counts: functions; bytes written, functions and functions recorded.
+// The bytes of the counts: functions; bytes written, functions, regressions and stale entries; bytes written, functions and functions recorded.
 const SCAN_COUNTS: usize = 4;
+
+const CHECK_COUNTS: usize = 16;
 
 const UPDATE_COUNTS: usize = 12;
 
@@ -36,6 +39,20 @@ fn scan_counts(r: Answer, counts: &mut [u8]) -> u32
 {
     if r.number == 0 {
         words::put_u32(counts, 0, r.functions);
+    }
+    r.number
+}
+
+// The number, and on success the counts of a check.
+fn check_counts(r: CheckAnswer, counts: &mut [u8]) -> u32
+    requires { ⌜ 16 ≤ length (now counts) ⌝ }
+    ensures { λ n. ⌜ (n ≡ r .number) × CountsPut 16 (r .written ∷ r .functions ∷ r .regressed ∷ r .stale ∷ []) (r .number) (now (counts .entry)) (now (counts .exit)) ⌝ }
+{
+    if r.number == 0 {
+        words::put_u32(counts, 0, r.written);
+        words::put_u32(counts, 4, r.functions);
+        words::put_u32(counts, 8, r.regressed);
+        words::put_u32(counts, 12, r.stale);
     }
     r.number
 }
@@ -80,6 +97,28 @@ pub extern "C" fn complexity_scan(
     }
     let r = gate_scan::scan(tree, work, records);
     scan_counts(r, counts)
+}
+
+// What got worse against a baseline. Counts: bytes written, functions, regressions, stale entries.
+#[no_mangle]
+pub extern "C" fn complexity_check(
+    tree: &[u8],
+    baseline: &[u8],
+    work: &mut [u8],
+    records: &mut [u8],
+    output: &mut [u8],
+    counts: &mut [u8],
+) -> u32
+    ensures { λ r. ⌜
+        Ends r (exportedCheck gate gateLimits (now (tree .entry)) (now (baseline .entry)) (now (work .entry)) (now (records .entry)) (now (output .entry)) (now (counts .entry)))
+        (now (work .exit)) (now (records .exit)) (now (output .exit)) (now (counts .exit))
+        ⌝ }
+{
+    if counts.len() < CHECK_COUNTS {
+        return too_few(tree);
+    }
+    let r = gate_check::check(tree, baseline, work, records, output);
+    check_counts(r, counts)
 }
 
 // The baseline of a tree. Counts: bytes written, functions, functions recorded.

@@ -22,7 +22,7 @@ use Rattle.gate_rules.specs.Records.{nameOf, recordBytes, recordOf, records, re
 use Rattle.gate_rules.specs.RecordsLaws.{functions-viewed, record-u32, records-count}
 use Rattle.gate_rules.specs.Scan.{functionsOf}
 use Rattle.gate_rules.specs.Tree.{Source, entryAt, fileCount, pathLength, pathOf, pathOffset, sourceAt, sources, sourcesFrom}
-use Rattle.gate_rules.specs.TreeLaws.{Placed, SoundTree, sources-placed, unrefused}
+use Rattle.gate_rules.specs.TreeLaws.{InTree, SoundTree, sources-placed, unrefused}
 use Rattle.functions.specs.Shown.{Stand, noFun, shown}
 use Rattle.functions.specs.declared.Function.{Function}
 
@@ -35,7 +35,7 @@ pub record Tells (tree r : List ℕ) : Type 0 where
   pub name-inside : getD r 1 0 + getD r 2 0 ≤ length tree
 
 module _ (tree : List ℕ) (short : length tree ≤ maxTree) where
-  tells : (file : Source) → Placed tree file → file .number < fileCount tree → (f : TextFun) → Fine (blanked (file .text)) f → Tells tree (recordOf file f)
+  tells : (file : Source) → InTree tree file → file .number < fileCount tree → (f : TextFun) → Fine (blanked (file .text)) f → Tells tree (recordOf file f)
   unfolding recordOf recordBytes u32Bytes
   tells file p n f fine =
       record {
@@ -46,11 +46,11 @@ module _ (tree : List ℕ) (short : length tree ≤ maxTree) where
         name-inside = omega (arith, blanked-length (file .text), fine .name-inside, p .text-inside);
       }
 
-  in-file : (file : Source) → Placed tree file → file .number < fileCount tree → (fs : List TextFun) → All (Fine (blanked (file .text))) fs → All (Tells tree) (map (recordOf file) fs)
+  in-file : (file : Source) → InTree tree file → file .number < fileCount tree → (fs : List TextFun) → All (Fine (blanked (file .text))) fs → All (Tells tree) (map (recordOf file) fs)
   in-file file p n [] h = tt
   in-file file p n (f ∷ fs) h = (tells file p n f (h .0), in-file file p n fs (h .1))
 
-  in-files : (files : List Source) → All (Placed tree) files → All (λ s. s .number < fileCount tree) files → All (Tells tree) (recordsOfFiles files)
+  in-files : (files : List Source) → All (InTree tree) files → All (λ s. s .number < fileCount tree) files → All (Tells tree) (recordsOfFiles files)
   unfolding recordsOfFiles recordsIn
   in-files [] p n = tt
   in-files (file ∷ files) p n =

@@ -8,12 +8,12 @@ use mathlib.Core.Option.{Option, none, some}
 use native.Mathlib.Omega.{arith}
 use Rattle.text_rules.specs.ByteOrder.{by-text}
 use Rattle.text_rules.specs.Bytes.{_∈_, among, before, if_then_else_, same}
-use Rattle.text_rules.specs.BytesLaws.{same-refl, true-false, whether}
+use Rattle.text_rules.specs.BytesLaws.{some-same, true-false, whether}
 use Rattle.text_rules.specs.Order.{insert, sort}
 use Rattle.text_rules.specs.Selection.{Rising}
 use Rattle.text_rules.specs.SortLaws.{sort-stable}
 use Rattle.gate_rules.specs.Baseline.{Entry, entryKey, laterOf, lookup}
-use Rattle.gate_rules.specs.BaselineLaws.{lookup-found, lookup-none}
+use Rattle.gate_rules.specs.BaselineLaws.{later-found, lookup-found, lookup-none, own-found}
 use Rattle.gate_rules.specs.Check.{distinct}
 use Rattle.gate_rules.specs.StaleLaws.{among-in, among-true, distinct-apart, sort-strict}
 
@@ -57,20 +57,11 @@ last-keys (e ∷ es) =
       | inr t ↦ rw (t, last-keys es)
     ]
 
--- an entry that a later one follows is found there
-later-found : (k : List ℕ) (d : Entry) (es : List Entry) (e : Entry) → lookup k es ≡ some e → lookup k (d ∷ es) ≡ some e
-unfolding lookup
-later-found k d es e h = rw h
-
 absent : (k : List ℕ) (es : List Entry) → among k (map entryKey es) ≡ false → (o : Option Entry) → lookup k es ≡ o → lookup k es ≡ none
 absent k es a none h = h
 absent k es a (some e) h =
     let found = lookup-found k es e h in
     absurd (true-false (among k (map entryKey es)) (among-in (map entryKey es) (Memᴰ·cast (sym (found .1)) (Memᴰ·map entryKey (found .0)))) a)
-
-own-found : (d : Entry) (es : List Entry) → lookup (entryKey d) es ≡ none → lookup (entryKey d) (d ∷ es) ≡ some d
-unfolding lookup
-own-found d es h = rw (h, same-refl (entryKey d))
 
 last-found : (es : List Entry) {e : Entry} → e ∈ lastOnly es → lookup (entryKey e) es ≡ some e
 unfolding lastOnly
@@ -84,9 +75,6 @@ last-found (d ∷ es) {e} m =
             | inr n ↦ later-found (entryKey e) d es e (last-found es n)
           ]
     ]
-
-some-same : (d e : Entry) → some d ≡ some e → e ≡ d
-some-same d e h = cc
 
 kept-later : (d : Entry) (es : List Entry) {e : Entry} → e ∈ lastOnly es → e ∈ lastOnly (d ∷ es)
 unfolding lastOnly
@@ -102,14 +90,14 @@ kept-here d es h =
           absurd (lookup-none (entryKey d) es h m q)
     ]
 
-found-step : (d : Entry) (es : List Entry) (e : Entry) → (lookup (entryKey e) es ≡ some e → e ∈ lastOnly es)
+kept-step : (d : Entry) (es : List Entry) (e : Entry) → (lookup (entryKey e) es ≡ some e → e ∈ lastOnly es)
     → (o : Option Entry) → lookup (entryKey e) es ≡ o → laterOf (if same (entryKey d) (entryKey e) then some d else none) o ≡ some e → e ∈ lastOnly (d ∷ es)
-found-step d es e below (some x) q h = kept-later d es (below (q ∙ h))
-found-step d es e below none q h =
+kept-step d es e below (some x) q h = kept-later d es (below (q ∙ h))
+kept-step d es e below none q h =
     elim (whether (same (entryKey d) (entryKey e))) [
       | inl t ↦
           let r : some d ≡ some e = rw t at h in
-          let p : e ≡ d = some-same d e r in
+          let p : e ≡ d = sym (some-same d e r) in
           subst (λ x. x ∈ lastOnly (d ∷ es)) (sym p) (kept-here d es (subst (λ x. lookup (entryKey x) es ≡ none) p q))
       | inr t ↦ let r : none ≡ some e = rw t at h in let z : _≡_ {A = ℕ} 0 1 = cc in absurd (omega arith)
     ]
@@ -117,7 +105,7 @@ found-step d es e below none q h =
 found-last : (es : List Entry) (e : Entry) → lookup (entryKey e) es ≡ some e → e ∈ lastOnly es
 unfolding lookup
 found-last [] e h = let z : _≡_ {A = ℕ} 0 1 = cc in absurd (omega arith)
-found-last (d ∷ es) e h = found-step d es e (λ k. found-last es e k) (lookup (entryKey e) es) refl h
+found-last (d ∷ es) e h = kept-step d es e (λ k. found-last es e k) (lookup (entryKey e) es) refl h
 
 pub mapped-is : (es : List Entry) → MapOf es (mapped es)
 unfolding mapped

@@ -74,7 +74,7 @@ pub scan-fits : (tree work records : List ℕ) → AnswerFits (scanCall gate tre
 unfolding scanCall
 scan-fits tree work records =
     answer-at (scanNumber gate tree work records) 0 (length (functionsOf gate tree))
-    (λ z. (omega arith, omega (arith, scanned-accepted gate tree work records z .few)))
+    (λ z. (omega arith, omega (arith, scanned-accepted tree work records z .few)))
 
 module _ (L : Limits) where
   pub check-fits : (tree baseline work records output : List ℕ) → CheckFits (checkCall gate L tree baseline work records output .answer)
@@ -110,4 +110,4 @@ module _ (L : Limits) where
   unfolding reportCall
   report-fits tree work records sums output =
       answer-at (reportNumber gate L tree work records sums output) (length (reportOf gate L tree)) (length (functionsOf gate tree))
-      (λ z. let a = reported-accepted gate L tree work records sums output z in (omega (arith, report-length L tree a), omega (arith, a .few)))
+      (λ z. let a = reported-accepted L tree work records sums output z in (omega (arith, report-length L tree a), omega (arith, a .few)))

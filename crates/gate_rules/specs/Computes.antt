@@ -31,7 +31,7 @@ unfolding
     Report.justified Report.reportRow Report.reportRows Report.worse Report.reported Report.weightOf Report.weights Report.heavier Report.heaviest Report.weightRows Report.reportText Report.sumsFrom
     Calls.workAfter Calls.recordsAfter Calls.scanNumber Calls.scanCall Calls.checkNumber Calls.checkCall Calls.updateNumber Calls.updateCall
     ReportCall.sumsOf ReportCall.sumsAfter ReportCall.reportOf ReportCall.reportNumber ReportCall.reportCall
-    Exports.countBytes Exports.exportedBlank Exports.exportNumber Exports.exportedAt Exports.exportedScan Exports.exportedCheck Exports.exportedUpdate Exports.exportedReport
+    Exports.exportedBlank Exports.exportNumber Exports.exportedAt Exports.exportedScan Exports.exportedCheck Exports.exportedUpdate Exports.exportedReport
     Programs.reportProgram Programs.checkProgram Programs.updateProgram Programs.updateFile
     History.step History.Allowed History.IsHistory History.passedBy History.passing
 everything = tt

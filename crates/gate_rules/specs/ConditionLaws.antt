@@ -4,21 +4,21 @@ use Prim.Native.Nat.{ℕ, zero, suc, _+_, _*_, _/_, _≤_, _<_}
 use mathlib.Core.Path.{_≡_, refl, ap, sym, _∙_}
 use mathlib.Core.Bool.{Bool, true, false, not, _&&_, false≢true}
 use mathlib.Core.Logic.{_⊎_, inl, inr, _≢_, _↔_}
-use mathlib.Core.List.{List, [], _∷_}
+use mathlib.Core.List.{List, [], _∷_, map}
 use native.Mathlib.Omega.{arith}
-use lib.Dec.{ltb}
+use lib.Dec.{eqb, leb, ltb}
 use lib.ListN.{length, take, drop, getD, length-take, length-drop}
-use borrow.Author.Tests.{eq-eqb, eqb-false, eqb-true, le-leb, ltb-false, ltb-true, ne-eqb, not-false, not-true}
+use borrow.Author.Tests.{eq-eqb, eqb-false, eqb-true, le-leb, leb-true, ltb-false, ltb-true, ne-eqb, not-false, not-true}
 use Rattle.text_rules.specs.Bytes.{All, Lacks}
 use Rattle.text_rules.specs.BytesLaws.{All-map, and-left, and-right, whether}
 use Rattle.text_rules.specs.Search.{has}
+use Rattle.text_rules.specs.Sizes.{maxFiles, maxPath}
 use Rattle.text_rules.specs.U32.{u32At}
 use Rattle.text_rules.specs.Utf8.{isUtf8}
 use Rattle.gate_rules.specs.Calls.{room}
 use Rattle.gate_rules.specs.Functions.{isComment}
-use Rattle.gate_rules.specs.Table.{EntriesLaid, EntryLaid, GoodPaths, Layout, PathFine, Rising}
-use Rattle.gate_rules.specs.Tree.{Source, entriesFit, entryFits, fileCount, isLaidOut, isPath, pathBefore, pathsRise, sourceAt, sources, sourcesFrom, textsGood}
-use Rattle.gate_rules.specs.TreeLaws.{GoodPath, entry-fits, laid-out, paths-good}
+use Rattle.gate_rules.specs.Table.{EntriesLaid, EntryLaid, GoodPaths, Layout, PathFine}
+use Rattle.gate_rules.specs.Tree.{PathsUp, Source, entriesFit, entryFits, fileCount, isLaidOut, isPath, pathBefore, pathLength, pathOffset, pathsRise, sourceAt, sources, sourcesFrom, tableEnd, textLength, textOffset, textsGood}
 
 -- a test decides a condition
 pub record Decides (test : Bool) (condition : Type 0) : Type 0 where
@@ -57,17 +57,27 @@ both {a} {b} p q = rw (p, q)
 
 -- THE LAYOUT
 
+-- what the entry says where it fits
+pub entry-fits : (tree : List ℕ) (entry running : ℕ) → entryFits tree entry running ≡ true → EntryLaid tree entry running
+unfolding entryFits
+entry-fits tree entry running e =
+    let a = and-left _ (leb (textOffset tree entry + textLength tree entry) (length tree)) e in
+    let b = and-left _ (eqb (textOffset tree entry) (running + pathLength tree entry)) a in
+    let c = and-left _ (leb (pathLength tree entry) maxPath) b in
+    record {
+      path-offset = eqb-true (pathOffset tree entry) running (and-left _ (leb 1 (pathLength tree entry)) c);
+      path-some = leb-true 1 (pathLength tree entry) (and-right (eqb (pathOffset tree entry) running) _ c);
+      path-short = leb-true (pathLength tree entry) maxPath (and-right (eqb (pathOffset tree entry) running && leb 1 (pathLength tree entry)) _ b);
+      text-offset = eqb-true (textOffset tree entry) (running + pathLength tree entry)
+          (and-right (eqb (pathOffset tree entry) running && leb 1 (pathLength tree entry) && leb (pathLength tree entry) maxPath) _ a);
+      text-inside = leb-true (textOffset tree entry + textLength tree entry) (length tree)
+          (and-right (eqb (pathOffset tree entry) running && leb 1 (pathLength tree entry) && leb (pathLength tree entry) maxPath && eqb (textOffset tree entry) (running + pathLength tree entry)) _ e);
+    }
+
 entry-laid : (tree : List ℕ) (entry running : ℕ) → (entryFits tree entry running ≡ true) ↔ EntryLaid tree entry running
 unfolding entryFits
 entry-laid tree entry running = (
-  λ e. let f = entry-fits tree entry running e in
-      record {
-        path-offset = f .path-at;
-        path-some = f .path-some;
-        path-short = f .path-short;
-        text-offset = f .text-at;
-        text-inside = f .text-inside;
-      },
+  entry-fits tree entry running,
   λ l.
       both (both (both (both
       (eq-eqb (u32At tree entry) running (l .path-offset))
@@ -86,6 +96,22 @@ entries-laid tree (suc left) entry running =
       λ e. (to (and-left _ _ e), to′ (and-right (entryFits tree entry running) _ e)),
       λ l. both (from (l .0)) (from′ (l .1)),
     )
+
+-- the parts of the layout's test
+pub record LaidOut (tree : List ℕ) : Type 0 where
+  pub few : fileCount tree ≤ maxFiles
+  pub table : tableEnd tree ≤ length tree
+  pub entries : entriesFit tree (fileCount tree) 4 (tableEnd tree) ≡ true
+
+pub laid-out : (tree : List ℕ) → isLaidOut tree ≡ true → LaidOut tree
+unfolding isLaidOut
+laid-out tree e =
+    let a = and-left _ (entriesFit tree (fileCount tree) 4 (tableEnd tree)) e in
+    record {
+      few = leb-true (fileCount tree) maxFiles (and-right (leb 4 (length tree)) _ (and-left _ (leb (tableEnd tree) (length tree)) a));
+      table = leb-true (tableEnd tree) (length tree) (and-right (leb 4 (length tree) && leb (fileCount tree) maxFiles) _ a);
+      entries = and-right (leb 4 (length tree) && leb (fileCount tree) maxFiles && leb (tableEnd tree) (length tree)) _ e;
+    }
 
 pub layout-spelled : (tree : List ℕ) → (isLaidOut tree ≡ true) ↔ Layout tree
 unfolding isLaidOut fileCount
@@ -109,18 +135,18 @@ layout-spelled tree =
 
 -- THE FILES: as many as the layout counts, each read from its entry of 16 bytes
 
-count-from : (tree : List ℕ) (left number entry : ℕ) → length (sourcesFrom tree left number entry) ≡ left
+pub entries-count : (tree : List ℕ) (left number entry : ℕ) → length (sourcesFrom tree left number entry) ≡ left
 unfolding sourcesFrom
-count-from tree zero number entry = refl
-count-from tree (suc left) number entry = ap suc (count-from tree left (suc number) (entry + 16))
+entries-count tree zero number entry = refl
+entries-count tree (suc left) number entry = ap suc (entries-count tree left (suc number) (entry + 16))
 
 pub files-count : (tree : List ℕ) → length (sources tree) ≡ u32At tree 0
 unfolding sources fileCount
-files-count tree = count-from tree (u32At tree 0) 0 4
+files-count tree = entries-count tree (u32At tree 0) 0 4
 
 -- the file that an entry tells of
-abbrev pub fileAt : List ℕ → (number : ℕ) → Source
-fileAt tree number =
+abbrev pub entryFile : List ℕ → (number : ℕ) → Source
+entryFile tree number =
     let entry = 4 + 16 * number in
     record {
       number = number;
@@ -129,18 +155,18 @@ fileAt tree number =
       textAt = u32At tree (entry + 8);
     }
 
-there-from : (tree : List ℕ) (left number k : ℕ) (absent : Source) → k < left → getD (sourcesFrom tree left number (4 + 16 * number)) k absent ≡ fileAt tree (number + k)
+there-from : (tree : List ℕ) (left number k : ℕ) (absent : Source) → k < left → getD (sourcesFrom tree left number (4 + 16 * number)) k absent ≡ entryFile tree (number + k)
 unfolding sourcesFrom sourceAt
 there-from tree zero number k absent h = absurd (omega arith)
-there-from tree (suc left) number zero absent h = let e : number ≡ number + 0 = omega arith in ap (fileAt tree) e
+there-from tree (suc left) number zero absent h = let e : number ≡ number + 0 = omega arith in ap (entryFile tree) e
 there-from tree (suc left) number (suc k) absent h =
     let entry : 4 + 16 * number + 16 ≡ 4 + 16 * suc number = omega arith in
     let e : suc number + k ≡ number + suc k = omega arith in
-    ap (λ at. getD (sourcesFrom tree left (suc number) at) k absent) entry ∙ there-from tree left (suc number) k absent (omega arith) ∙ ap (fileAt tree) e
+    ap (λ at. getD (sourcesFrom tree left (suc number) at) k absent) entry ∙ there-from tree left (suc number) k absent (omega arith) ∙ ap (entryFile tree) e
 
-pub file-there : (tree : List ℕ) (k : ℕ) (absent : Source) → k < u32At tree 0 → getD (sources tree) k absent ≡ fileAt tree k
+pub file-there : (tree : List ℕ) (k : ℕ) (absent : Source) → k < u32At tree 0 → getD (sources tree) k absent ≡ entryFile tree k
 unfolding sources fileCount
-file-there tree k absent h = let e : 0 + k ≡ k = omega arith in there-from tree (u32At tree 0) 0 k absent h ∙ ap (fileAt tree) e
+file-there tree k absent h = let e : 0 + k ≡ k = omega arith in there-from tree (u32At tree 0) 0 k absent h ∙ ap (entryFile tree) e
 
 -- THE PATHS
 
@@ -149,58 +175,91 @@ unfolding has
 lacks-has x [] h = refl
 lacks-has x (b ∷ s) h = rw (ne-eqb b x (h .0)) (lacks-has x s (h .1))
 
-uncommented : (path : List ℕ) → (isComment path ≡ false) ↔ (getD path 0 0 ≢ 35)
+pub uncommented : (path : List ℕ) → (isComment path ≡ false) ↔ (getD path 0 0 ≢ 35)
 unfolding isComment
 uncommented [] = (λ e. omega arith, λ h. refl)
 uncommented (b ∷ s) = (λ e. eqb-false b 35 e, λ h. ne-eqb b 35 h)
 
-fine-path : (path : List ℕ) → GoodPath path → PathFine path
-fine-path path g = record { no-tab = g .no-tab; no-LF = g .no-LF; no-hash = uncommented path .0 (g .no-comment); utf8 = g .utf8 }
+lacks : (x : ℕ) (s : List ℕ) → has x s ≡ false → Lacks x s
+unfolding has
+lacks x [] e = tt
+lacks x (b ∷ s) e =
+    elim (whether (eqb b x)) [
+      | inl t ↦ let h : true ≡ false = rw t at e in let z : _≡_ {A = ℕ} 0 1 = cc in absurd (omega arith)
+      | inr t ↦ (eqb-false b x t, lacks x s (rw t at e))
+    ]
 
-path-fine : (path : List ℕ) → PathFine path → isPath path ≡ true
+pub path-spelled : (path : List ℕ) → (isPath path ≡ true) ↔ PathFine path
 unfolding isPath
-path-fine path g = rw (lacks-has 9 path (g .no-tab), lacks-has 10 path (g .no-LF), uncommented path .1 (g .no-hash), g .utf8)
+path-spelled path = (
+  λ e.
+      let a = and-left _ (isUtf8 path) e in
+      let b = and-left _ (not (isComment path)) a in
+      record {
+        no-tab = lacks 9 path (not-true _ (and-left _ (not (has 10 path)) b));
+        no-LF = lacks 10 path (not-true _ (and-right (not (has 9 path)) _ b));
+        no-hash = uncommented path .0 (not-true _ (and-right (not (has 9 path) && not (has 10 path)) _ a));
+        utf8 = and-right (not (has 9 path) && not (has 10 path) && not (isComment path)) _ e;
+      },
+  λ g. rw (lacks-has 9 path (g .no-tab), lacks-has 10 path (g .no-LF), uncommented path .1 (g .no-hash), g .utf8),
+)
 
--- the first path stands behind another path
-abbrev Behind : List ℕ → List Source → Type 0
-Behind last [] = Unit {0}
-Behind last (f ∷ fs) = pathBefore last (f .path) ≡ true
-
-rises : (last : List ℕ) (fs : List Source) → pathsRise last fs ≡ true → Rising fs
+-- paths that rise behind a last one: each is good, and stands behind the one before
+pub paths-each : (last : List ℕ) (fs : List Source) → pathsRise last fs ≡ true → All (λ f. isPath (f .path) ≡ true) fs
 unfolding pathsRise
-rises last [] e = tt
-rises last (f ∷ []) e = tt
-rises last (f ∷ g ∷ fs) e =
-    let rest : pathsRise (f .path) (g ∷ fs) ≡ true = and-right (isPath (f .path) && pathBefore last (f .path)) _ e in
-    (and-right (isPath (g .path)) _ (and-left _ (pathsRise (g .path) fs) rest), rises (f .path) (g ∷ fs) rest)
+paths-each last [] e = tt
+paths-each last (f ∷ fs) e = (
+  and-left _ (pathBefore last (f .path)) (and-left _ (pathsRise (f .path) fs) e),
+  paths-each (f .path) fs (and-right (isPath (f .path) && pathBefore last (f .path)) _ e),
+)
 
-rising : (last : List ℕ) (fs : List Source) → Behind last fs → All (λ f. PathFine (f .path)) fs → Rising fs → pathsRise last fs ≡ true
+pub paths-up : (last : List ℕ) (fs : List Source) → pathsRise last fs ≡ true → PathsUp (last ∷ map (λ f. f .path) fs)
 unfolding pathsRise
-rising last [] b h r = refl
-rising last (f ∷ []) b h r = both (both (path-fine (f .path) (h .0)) b) refl
-rising last (f ∷ g ∷ fs) b h r = both (both (path-fine (f .path) (h .0)) b) (rising (f .path) (g ∷ fs) (r .0) (h .1) (r .1))
+paths-up last [] e = tt
+paths-up last (f ∷ fs) e = (
+  and-right (isPath (f .path)) _ (and-left _ (pathsRise (f .path) fs) e),
+  paths-up (f .path) fs (and-right (isPath (f .path) && pathBefore last (f .path)) _ e),
+)
 
--- a path of a laid-out tree has a byte, so that it stands behind the empty path
-behind-empty : (path : List ℕ) → 1 ≤ length path → pathBefore [] path ≡ true
+pub paths-rise : (last : List ℕ) (fs : List Source) → All (λ f. isPath (f .path) ≡ true) fs → PathsUp (last ∷ map (λ f. f .path) fs) → pathsRise last fs ≡ true
+unfolding pathsRise
+paths-rise last [] h u = refl
+paths-rise last (f ∷ fs) h u = both (both (h .0) (u .0)) (paths-rise (f .path) fs (h .1) (u .1))
+
+pub paths-good : (last : List ℕ) (fs : List Source) → pathsRise last fs ≡ true → All (λ f. PathFine (f .path)) fs
+paths-good last fs e = All-map (λ f. isPath (f .path) ≡ true) (λ f. PathFine (f .path)) (λ f g. path-spelled (f .path) .0 g) fs (paths-each last fs e)
+
+-- without the first
+pub up-rest : (p : List ℕ) (ps : List (List ℕ)) → PathsUp (p ∷ ps) → PathsUp ps
+up-rest p [] u = tt
+up-rest p (q ∷ ps) u = u .1
+
+-- a path that has a byte stands behind the empty path
+pub behind-empty : (path : List ℕ) → 1 ≤ length path → pathBefore [] path ≡ true
 unfolding pathBefore
 behind-empty [] h = absurd (omega arith)
 behind-empty (b ∷ path) h = refl
 
-first-behind : (tree : List ℕ) (left number entry running : ℕ) → EntriesLaid tree left entry running → Behind [] (sourcesFrom tree left number entry)
+-- and so does the first path of a laid-out tree
+first-behind : (tree : List ℕ) (left number entry running : ℕ) → EntriesLaid tree left entry running
+    → let paths = map (λ f. f .path) (sourcesFrom tree left number entry) in PathsUp paths → PathsUp ([] ∷ paths)
 unfolding sourcesFrom sourceAt
-first-behind tree zero number entry running l = tt
-first-behind tree (suc left) number entry running l =
+first-behind tree zero number entry running l u = tt
+first-behind tree (suc left) number entry running l u =
     let a = l .0 .path-offset in
     let b = l .0 .path-some in
     let c = l .0 .text-offset in
     let d = l .0 .text-inside in
-    behind-empty (take (u32At tree (entry + 4)) (drop (u32At tree entry) tree)) (simp (length-take, length-drop) (omega arith))
+    (behind-empty (take (u32At tree (entry + 4)) (drop (u32At tree entry) tree)) (simp (length-take, length-drop) (omega arith)), u)
 
 pub paths-spelled : (tree : List ℕ) → Layout tree → (pathsRise [] (sources tree) ≡ true) ↔ GoodPaths (sources tree)
 unfolding sources fileCount
 paths-spelled tree l = (
-  λ e. record { fine = All-map (λ f. GoodPath (f .path)) (λ f. PathFine (f .path)) (λ f g. fine-path (f .path) g) (sources tree) (paths-good [] (sources tree) e); rising = rises [] (sources tree) e },
-  λ g. rising [] (sources tree) (first-behind tree (u32At tree 0) 0 4 (4 + 16 * u32At tree 0) (l .entries-laid)) (g .fine) (g .rising),
+  λ e. record { fine = paths-good [] (sources tree) e; rising = up-rest [] (map (λ f. f .path) (sources tree)) (paths-up [] (sources tree) e) },
+  λ g.
+      paths-rise [] (sources tree)
+      (All-map (λ f. PathFine (f .path)) (λ f. isPath (f .path) ≡ true) (λ f h. path-spelled (f .path) .1 h) (sources tree) (g .fine))
+      (first-behind tree (u32At tree 0) 0 4 (4 + 16 * u32At tree 0) (l .entries-laid) (g .rising)),
 )
 
 -- THE TEXTS

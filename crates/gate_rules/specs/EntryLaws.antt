@@ -21,14 +21,14 @@ pub record InRange (e : Entry) : Type 0 where
   pub lines-u64 : e .lines < 18446744073709551616
 
 -- an entry, and the bytes of the line that holds it: its key, two tabs and at least two digits
-abbrev Holds : ℕ → Entry → Type 0
-Holds size e = InRange e × (4 + length (entryKey e) ≤ size)
+abbrev HeldBy : ℕ → Entry → Type 0
+HeldBy size e = InRange e × (4 + length (entryKey e) ≤ size)
 
 key-length : (e : Entry) → length (entryKey e) ≡ suc (length (e .path) + length (e .name))
 key-length e = simp length-append (omega arith)
 
 entry-with : (path name c l : List ℕ) (size : ℕ) → 3 + length path + length name + length c + length l ≤ size
-    → (i j : Option ℕ) → parseNumber 4294967295 c ≡ i → parseNumber 18446744073709551615 l ≡ j → (e : Entry) → entryWith path name i j ≡ some e → Holds size e
+    → (i j : Option ℕ) → parseNumber 4294967295 c ≡ i → parseNumber 18446744073709551615 l ≡ j → (e : Entry) → entryWith path name i j ≡ some e → HeldBy size e
 entry-with path name c l size h none j p q e r = let z : _≡_ {A = ℕ} 0 1 = cc in absurd (omega arith)
 entry-with path name c l size h (some m) none p q e r = let z : _≡_ {A = ℕ} 0 1 = cc in absurd (omega arith)
 entry-with path name c l size h (some m) (some n) p q e r =
@@ -36,9 +36,9 @@ entry-with path name c l size h (some m) (some n) p q e r =
     let same : d ≡ e = cc in
     let a = number-read 4294967295 c m p in
     let b = number-read 18446744073709551615 l n q in
-    subst (Holds size) same (record { cyclomatic-u32 = omega arith; lines-u64 = omega arith }, omega (arith, key-length d))
+    subst (HeldBy size) same (record { cyclomatic-u32 = omega arith; lines-u64 = omega arith }, omega (arith, key-length d))
 
-entry-fields : (fs : List (List ℕ)) (size : ℕ) → total (λ p. suc (length p)) fs ≤ suc size → (e : Entry) → entryOfFields fs ≡ some e → Holds size e
+entry-fields : (fs : List (List ℕ)) (size : ℕ) → total (λ p. suc (length p)) fs ≤ suc size → (e : Entry) → entryOfFields fs ≡ some e → HeldBy size e
 unfolding entryOfFields
 entry-fields [] size h e r = let z : _≡_ {A = ℕ} 0 1 = cc in absurd (omega arith)
 entry-fields (path ∷ []) size h e r = let z : _≡_ {A = ℕ} 0 1 = cc in absurd (omega arith)
@@ -46,7 +46,7 @@ entry-fields (path ∷ name ∷ []) size h e r = let z : _≡_ {A = ℕ} 0 1 = c
 entry-fields (path ∷ name ∷ c ∷ []) size h e r = let z : _≡_ {A = ℕ} 0 1 = cc in absurd (omega arith)
 entry-fields (path ∷ name ∷ c ∷ l ∷ more) size h e r = entry-with path name c l size (omega arith) _ _ refl refl e r
 
-entry-line : (line : List ℕ) (e : Entry) → entryOf line ≡ some e → Holds (length line) e
+entry-line : (line : List ℕ) (e : Entry) → entryOf line ≡ some e → HeldBy (length line) e
 unfolding entryOf fields
 entry-line line e r =
     elim (whether (isComment line)) [

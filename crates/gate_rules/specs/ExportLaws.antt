@@ -2,28 +2,27 @@
 -- stand in those bytes; where they have not, 5 is returned at 5's place and every buffer stays.
 use Prim.Native.Nat.{ℕ, zero, suc, _≤_, _<_}
 use mathlib.Core.Path.{_≡_, refl, ap, ap₂, sym, _∙_}
-use mathlib.Core.List.{List, [], _∷_, _++_, map}
+use mathlib.Core.List.{List, [], _++_, _∷_}
 use native.Mathlib.Omega.{arith}
 use lib.ListN.{length, drop}
 use lib.Seq.{drop-at}
 use borrow.Author.Tests.{le-ltb, lt-ltb}
 use Rattle.text_rules.specs.Answer.{answerAt}
-use Rattle.text_rules.specs.Bytes.{_orElse_, joined}
-use Rattle.text_rules.specs.U32.{u32Bytes}
+use Rattle.text_rules.specs.Bytes.{_orElse_}
+use Rattle.text_rules.specs.U32.{u32Bytes, u32sBytes}
 use Rattle.source_rules.specs.BlankCall.{blankCall, blankNumber}
 use Rattle.gate_rules.specs.Baseline.{entries}
-use Rattle.gate_rules.specs.CallLaws.{checked-number, updated-number}
 use Rattle.gate_rules.specs.Calls.{checkAnswer, checkCall, checkNumber, outputAfter, recordsAfter, scanCall, scanNumber, updateAnswer, updateCall, updateNumber, workAfter}
-use Rattle.gate_rules.specs.Exports.{Exported, countBytes, exportNumber, exportedAt, exportedBlank, exportedCheck, exportedReport, exportedScan, exportedUpdate, ownTable}
+use Rattle.gate_rules.specs.Exports.{Exported, exportNumber, exportedAt, exportedBlank, exportedCheck, exportedReport, exportedScan, exportedUpdate}
 use Rattle.gate_rules.specs.Functions.{Limits}
 use Rattle.gate_rules.specs.Gate.{gate}
 use Rattle.gate_rules.specs.Left.{ExportedLeft}
 use Rattle.gate_rules.specs.LeftLaws.{exported-check-left, exported-report-left, exported-scan-left, exported-update-left, output-leaves}
-use Rattle.gate_rules.specs.Report.{FileSum}
+use Rattle.gate_rules.specs.Report.{FileSum, emptySums}
 use Rattle.gate_rules.specs.ReportCall.{reportCall, reportNumber, reportOf}
 use Rattle.gate_rules.specs.Scan.{functionsOf}
 use Rattle.gate_rules.specs.Table.{treeRows}
-use Rattle.gate_rules.specs.TableLaws.{answer-number, at-most, report-any-sums, tree-first}
+use Rattle.gate_rules.specs.TableLaws.{answer-number, at-most, checked-number, report-any-sums, tree-first, updated-number}
 use Rattle.gate_rules.specs.Tree.{sources, treeRefusal}
 
 -- An export that ends as a call does: `number`, `work′`, `records″` and `output′` are the call's, `values` the counts of its answer.
@@ -33,7 +32,7 @@ pub record EndsAs (width : ℕ) (values : List ℕ) (number : ℕ) (work′ reco
   pub same-work : e .work ≡ work′
   pub same-records : e .records ≡ records″
   pub same-output : e .output ≡ output′
-  pub success-counts : number ≡ 0 → e .counts ≡ joined (map u32Bytes values) ++ drop width counts
+  pub success-counts : number ≡ 0 → e .counts ≡ u32sBytes values ++ drop width counts
   pub refused-counts : 1 ≤ number → e .counts ≡ counts
   pub beyond-counts : drop width (e .counts) ≡ drop width counts
 
@@ -57,27 +56,27 @@ unfolding exportNumber gate
 own-number width tree counts rest h = rw (le-ltb (length counts) width h) (twice (treeRefusal tree) rest)
 
 -- counts, written or not
-beyond : (width n : ℕ) (bytes counts : List ℕ) → length bytes ≡ width → drop width (outputAfter n bytes counts) ≡ drop width counts
-beyond width zero bytes counts e = drop-at bytes (drop (length bytes) counts) width e ∙ ap (λ k. drop k counts) e
-beyond width (suc n) bytes counts e = refl
+beyond-put : (width n : ℕ) (bytes counts : List ℕ) → length bytes ≡ width → drop width (outputAfter n bytes counts) ≡ drop width counts
+beyond-put width zero bytes counts e = drop-at bytes (drop (length bytes) counts) width e ∙ ap (λ k. drop k counts) e
+beyond-put width (suc n) bytes counts e = refl
 
 -- `put` are the counts as the export reckons them, `values` as the call's answer has them
-module _ (width : ℕ) (tree text put values work records′ output counts : List ℕ) (wide : length (joined (map u32Bytes put)) ≡ width) (n : ℕ) (same : n ≡ 0 → put ≡ values) where
+module _ (width : ℕ) (tree text put values work records′ output counts : List ℕ) (wide : length (u32sBytes put) ≡ width) (n : ℕ) (same : n ≡ 0 → put ≡ values) where
   ends-as : (m : ℕ) → m ≡ n
       → EndsAs width values n (workAfter gate n tree work) (recordsAfter gate n tree records′) (outputAfter n text output) counts
       (exportedAt gate m tree text put work records′ output counts)
-  unfolding exportedAt countBytes
+  unfolding exportedAt
   ends-as m e =
-      let left = output-leaves n (joined (map u32Bytes put)) counts in
+      let left = output-leaves n (u32sBytes put) counts in
       rw e
       (record {
         same-number = refl;
         same-work = refl;
         same-records = refl;
         same-output = refl;
-        success-counts = λ z. left .written-output z ∙ ap₂ (λ vs k. joined (map u32Bytes vs) ++ drop k counts) (same z) wide;
+        success-counts = λ z. left .written-output z ∙ ap₂ (λ vs k. u32sBytes vs ++ drop k counts) (same z) wide;
         refused-counts = left .refused-output;
-        beyond-counts = beyond width n (joined (map u32Bytes put)) counts wide;
+        beyond-counts = beyond-put width n (u32sBytes put) counts wide;
       })
 
 -- scan has no output
@@ -161,7 +160,7 @@ module _ (L : Limits) where
       rw (answer-number n)
       (ends-as 8 tree _ _ _ work records′ output counts refl n
       (λ e. ap₂ (λ w k. w ∷ k ∷ []) (answer-written n listed found e) (answer-functions n listed found e)) _
-      (report-own tree work records′ (ownTable gate L) output counts h ∙ report-any-sums L tree work records′ sums output enough))
+      (report-own tree work records′ emptySums output counts h ∙ report-any-sums L tree work records′ sums output enough))
 
 -- TOO FEW BYTES FOR THE COUNTS
 

@@ -1,25 +1,20 @@
 -- The calls for C hosts, on byte slices: the number is returned, and on success the counts are put, each as a u32, into lent bytes.
 -- Too few lent bytes for the counts give 5, at 5's place in the order, and leave every buffer unchanged.
 use Prim.Native.Nat.{ℕ}
-use mathlib.Core.List.{List, [], _∷_, map}
+use mathlib.Core.List.{List, [], _∷_}
 use lib.Dec.{ltb}
-use lib.ListN.{length, replicate}
-use Rattle.text_rules.specs.Bytes.{_orElse_, _when_, joined}
-use Rattle.text_rules.specs.Sizes.{maxFiles}
-use Rattle.text_rules.specs.U32.{u32Bytes}
+use lib.ListN.{length}
+use Rattle.text_rules.specs.Bytes.{_orElse_, _when_}
+use Rattle.text_rules.specs.U32.{u32sBytes}
 use Rattle.source_rules.specs.BlankCall.{blankNumber, blankOutput}
 use Rattle.gate_rules.specs.Baseline.{entries}
 use Rattle.gate_rules.specs.Calls.{checkAnswer, checkNumber, outputAfter, recordsAfter, scanNumber, updateAnswer, updateNumber, workAfter}
 use Rattle.gate_rules.specs.Check.{listing}
 use Rattle.gate_rules.specs.Functions.{Limits}
-use Rattle.gate_rules.specs.Report.{FileSum}
+use Rattle.gate_rules.specs.Report.{emptySums}
 use Rattle.gate_rules.specs.ReportCall.{reportNumber, reportOf}
 use Rattle.gate_rules.specs.Scan.{Scan, functionsOf}
 use Rattle.gate_rules.specs.Update.{baselineText}
-
--- counts as they are put, four bytes each
-unfoldable pub countBytes : List ℕ → List ℕ
-countBytes counts = joined (map u32Bytes counts)
 
 -- blanking has no counts: what the call blank returns and leaves
 pub record ExportedBlank : Type 0 where
@@ -53,7 +48,7 @@ module _ (S : Scan) where
         work = workAfter S number tree work;
         records = recordsAfter S number tree records;
         output = outputAfter number text output;
-        counts = outputAfter number (countBytes values) counts;
+        counts = outputAfter number (u32sBytes values) counts;
       }
 
   -- scan: the functions
@@ -78,10 +73,7 @@ module _ (S : Scan) (L : Limits) where
       exportedAt S number tree (baselineText L (functionsOf S tree)) (a .written ∷ a .functions ∷ a .recorded ∷ []) work records output counts
 
   -- report: bytes written, functions; its table of sums is its own, large enough for every tree
-  abbrev pub ownTable : List FileSum
-  ownTable = replicate maxFiles (record { file = 0; sum = 0 })
-
   unfoldable pub exportedReport : (tree work records output counts : List ℕ) → Exported
   exportedReport tree work records output counts =
-      let number : ℕ = exportNumber S 8 tree counts (reportNumber S L tree work records ownTable output) in
+      let number : ℕ = exportNumber S 8 tree counts (reportNumber S L tree work records emptySums output) in
       exportedAt S number tree (reportOf S L tree) (length (reportOf S L tree) ∷ length (functionsOf S tree) ∷ []) work records output counts

@@ -12,34 +12,34 @@ use Rattle.text_rules.specs.Sizes.{maxFiles}
 use Rattle.text_rules.specs.Utf8.{isUtf8}
 use Rattle.source_rules.specs.Blank.{blanked}
 use Rattle.source_rules.specs.BlankLaws.{blanked-length}
+use Rattle.gate_rules.specs.ConditionLaws.{entry-fits, laid-out}
 use Rattle.gate_rules.specs.Records.{blankInto}
 use Rattle.gate_rules.specs.ScanForms.{sources-end, sources-step}
 use Rattle.gate_rules.specs.Tree.{entriesFit, entryAt, entryFits, fileCount, isLaidOut, isPath, pathAt, pathBefore, pathLength, pathOffset, pathsRise, sourceAt, sourcesFrom, textIn, textLength, textOffset, textsGood}
-use Rattle.gate_rules.specs.TreeLaws.{entry-fits, laid-out}
 
 -- the path and the text of an entry lie in the tree
-pub record Inside (tree : List ℕ) (entry : ℕ) : Type 0 where
+pub record EntryInside (tree : List ℕ) (entry : ℕ) : Type 0 where
   pub path-some : 1 ≤ pathLength tree entry
   pub path-inside : pathOffset tree entry + pathLength tree entry ≤ length tree
   pub text-at : textOffset tree entry ≡ pathOffset tree entry + pathLength tree entry
   pub text-inside : textOffset tree entry + textLength tree entry ≤ length tree
 
-inside : (tree : List ℕ) (entry running : ℕ) → entryFits tree entry running ≡ true → Inside tree entry
+inside : (tree : List ℕ) (entry running : ℕ) → entryFits tree entry running ≡ true → EntryInside tree entry
 inside tree entry running e =
     let f = entry-fits tree entry running e in
-    let p = f .path-at in
-    let t = f .text-at in
+    let p = f .path-offset in
+    let t = f .text-offset in
     let i = f .text-inside in
     record { path-some = f .path-some; path-inside = omega arith; text-at = omega arith; text-inside = i }
 
-inside-from : (tree : List ℕ) (left entry running k : ℕ) → k < left → entriesFit tree left entry running ≡ true → Inside tree (entry + 16 * k)
+inside-from : (tree : List ℕ) (left entry running k : ℕ) → k < left → entriesFit tree left entry running ≡ true → EntryInside tree (entry + 16 * k)
 unfolding entriesFit
 inside-from tree zero entry running k h e = absurd (omega arith)
 inside-from tree (suc left) entry running zero h e =
-    let z : entry ≡ entry + 16 * 0 = omega arith in subst (Inside tree) z (inside tree entry running (and-left _ _ e))
+    let z : entry ≡ entry + 16 * 0 = omega arith in subst (EntryInside tree) z (inside tree entry running (and-left _ _ e))
 inside-from tree (suc left) entry running (suc k) h e =
     let z : entry + 16 + 16 * k ≡ entry + 16 * suc k = omega arith in
-    subst (Inside tree) z (inside-from tree left (entry + 16) _ k (omega arith) (and-right (entryFits tree entry running) _ e))
+    subst (EntryInside tree) z (inside-from tree left (entry + 16) _ k (omega arith) (and-right (entryFits tree entry running) _ e))
 
 -- the entry, the path and the text of the file with the number k lie in the tree
 pub record FileAt (tree : List ℕ) (k : ℕ) : Type 0 where

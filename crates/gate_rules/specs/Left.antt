@@ -7,7 +7,7 @@ use mathlib.Core.Logic.{_⊎_}
 use mathlib.Core.List.{List, [], _∷_, _++_, map}
 use lib.ListN.{length, take, drop, getD}
 use Rattle.text_rules.specs.Bytes.{All, joined}
-use Rattle.text_rules.specs.U32.{u32Bytes}
+use Rattle.text_rules.specs.U32.{u32sBytes}
 use Rattle.source_rules.specs.Blank.{blanked}
 use Rattle.source_rules.specs.BlankCall.{Blanked}
 use Rattle.gate_rules.specs.Baseline.{entries}
@@ -17,10 +17,10 @@ use Rattle.gate_rules.specs.Exports.{Exported}
 use Rattle.gate_rules.specs.Functions.{Limits}
 use Rattle.gate_rules.specs.Gate.{gate}
 use Rattle.gate_rules.specs.Records.{blankInto, recordBytes, records}
-use Rattle.gate_rules.specs.Report.{FileSum}
+use Rattle.gate_rules.specs.Report.{FileSum, noSum}
 use Rattle.gate_rules.specs.ReportCall.{Reported, reportOf, sumsOf}
 use Rattle.gate_rules.specs.Scan.{functionsOf}
-use Rattle.gate_rules.specs.SumLaws.{noSum, sumOver}
+use Rattle.gate_rules.specs.SumLaws.{sumOver}
 use Rattle.gate_rules.specs.Tree.{sources}
 use Rattle.gate_rules.specs.Update.{baselineText, recorded}
 
@@ -109,4 +109,4 @@ pub record ReportedLeft (L : Limits) (tree work records′ : List ℕ) (sums : L
 pub record ExportedLeft (tree text values work records′ output counts : List ℕ) (e : Exported) : Type 0 where
   pub scan-buffers : ScanLeft tree work records′ (e .number) (e .work) (e .records)
   pub output-buffer : OutputLeft text output (e .number) (e .output)
-  pub counts-buffer : OutputLeft (joined (map u32Bytes values)) counts (e .number) (e .counts)
+  pub counts-buffer : OutputLeft (u32sBytes values) counts (e .number) (e .counts)

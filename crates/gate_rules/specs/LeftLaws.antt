@@ -1,42 +1,41 @@
 -- Every call leaves what Left says, for every input.
 use Prim.Native.Nat.{ℕ, zero, suc, _+_, _-_, _*_, _/_, _≤_, _<_, min}
 use mathlib.Core.Path.{_≡_, refl, ap, sym, _∙_, subst}
-use mathlib.Core.Logic.{_⊎_, inl, inr, _≢_}
+use mathlib.Core.Logic.{_≢_, _⊎_, inl, inr, ⊎-elim}
 use mathlib.Core.List.{List, [], _∷_, _++_, map}
 use native.Mathlib.Omega.{arith}
-use lib.Dec.{eqb}
-use lib.ListN.{length, take, drop, getD, length-append, length-map, length-take, List·getD-append}
+use lib.Dec.{eqb, leb}
+use lib.ListN.{List·getD-append, drop, getD, length, length-append, length-drop, length-map, length-take, take}
 use lib.Seq.{getD-append-add, getD-drop, getD-take, take-all}
-use borrow.Author.Tests.{eqb-false, eqb-true}
+use borrow.Author.Tests.{eqb-false, eqb-true, leb-false, leb-true}
 use Rattle.text_rules.specs.Answer.{answerAt}
 use Rattle.text_rules.specs.Bytes.{All, joined, overwritten, putAt}
 use Rattle.text_rules.specs.BytesLaws.{All-append, All-map, whether}
 use Rattle.text_rules.specs.PutLaws.{put-length}
-use Rattle.text_rules.specs.U32.{u32Bytes}
+use Rattle.text_rules.specs.U32.{u32sBytes}
 use Rattle.source_rules.specs.Blank.{blanked}
 use Rattle.source_rules.specs.BlankCall.{blankCall, blankNumber, blankOutput}
 use Rattle.source_rules.specs.BlankLaws.{blanked-length}
-use Rattle.source_rules.specs.TextScan.{TextFun, functions}
+use Rattle.source_rules.specs.TextScan.{functions}
 use Rattle.gate_rules.specs.Baseline.{Entry, entries}
-use Rattle.gate_rules.specs.BufferLaws.{blank-length}
-use Rattle.gate_rules.specs.CallLaws.{checked-number, updated-number}
+use Rattle.gate_rules.specs.BufferLaws.{blank-length, overwritten-length, records-length}
 use Rattle.gate_rules.specs.Calls.{checkAnswer, checkCall, checkNumber, outputAfter, recordsAfter, room, scanCall, scanNumber, updateAnswer, updateCall, updateNumber, workAfter}
 use Rattle.gate_rules.specs.Check.{listing, regressions, stale}
 use Rattle.gate_rules.specs.ConditionLaws.{files-count}
-use Rattle.gate_rules.specs.Exports.{countBytes, exportedAt, exportedBlank, exportedCheck, exportedReport, exportedScan, exportedUpdate}
+use Rattle.gate_rules.specs.Exports.{exportedAt, exportedBlank, exportedCheck, exportedReport, exportedScan, exportedUpdate}
 use Rattle.gate_rules.specs.Functions.{Fun, Limits}
 use Rattle.gate_rules.specs.Gate.{fileOf, gate}
 use Rattle.gate_rules.specs.Left.{BlankLeft, CheckedLeft, Counted, ExportedLeft, OutputLeft, ReportedLeft, ScanLeft, ScannedLeft, SumsLeft, SumsWritten, UpdatedLeft, WorkBlanked, firstRecords}
-use Rattle.gate_rules.specs.Records.{blankInto, recordBytes, recordOf, records, recordsIn, recordsOfFiles}
-use Rattle.gate_rules.specs.RecordsLaws.{record-width, records-count}
-use Rattle.gate_rules.specs.Report.{FileSum, sumsFrom}
+use Rattle.gate_rules.specs.Records.{blankInto, recordBytes, records, recordsOfFiles}
+use Rattle.gate_rules.specs.RecordsLaws.{records-count, records-wide}
+use Rattle.gate_rules.specs.Report.{FileSum, noSum}
 use Rattle.gate_rules.specs.ReportCall.{reportCall, reportNumber, reportOf, sumsAfter, sumsOf}
-use Rattle.gate_rules.specs.Scan.{File, functionsOf}
-use Rattle.gate_rules.specs.SumLaws.{file-sum, noSum}
-use Rattle.gate_rules.specs.Table.{Fails, FewCounts, FewSums, First, LongBaseline, ManyFunctions, Row, TooShort, _if_, treeRows}
-use Rattle.gate_rules.specs.TableLaws.{answer-number, check-number, exactly-zero, exported-check-first, exported-report-first, exported-scan-first, exported-update-first, part-fails, past, report-number, scan-number, tree-different, tree-first, update-number}
-use Rattle.gate_rules.specs.Tree.{Source, fileCount, sources, treeRefusal}
-use Rattle.gate_rules.specs.TreeLaws.{Placed, SoundTree, sources-placed, unrefused}
+use Rattle.gate_rules.specs.Scan.{functionsOf}
+use Rattle.gate_rules.specs.SumLaws.{file-sum, sums-length}
+use Rattle.gate_rules.specs.Table.{Fails, FewCounts, FewSums, First, LongBaseline, ManyFunctions, Row, TooShort, _if_, checkTable, reportTable, scanTable, treeRows, updateTable}
+use Rattle.gate_rules.specs.TableLaws.{answer-number, at-most, check-different, check-number, checked-number, exactly-zero, exported-check-first, exported-report-first, exported-scan-first, exported-update-first, part-fails, past, report-different, report-number, scan-number, update-different, update-number, updated-number}
+use Rattle.gate_rules.specs.Tree.{Source, fileCount, sources}
+use Rattle.gate_rules.specs.TreeLaws.{InTree, SoundTree, sound, sources-placed}
 use Rattle.gate_rules.specs.Update.{baselineText, recorded}
 use Rattle.gate_rules.specs.WorkLaws.{work-holds}
 
@@ -58,7 +57,7 @@ put-outside at bytes s i fits (inr h) =
     ∙ getD-drop (at + length bytes) s (i - (at + length bytes)) 0
     ∙ ap (λ k. getD s k 0) back
 
-blank-outside : (tree : List ℕ) (files : List Source) (work : List ℕ) → All (Placed tree) files → length tree ≤ length work
+blank-outside : (tree : List ℕ) (files : List Source) (work : List ℕ) → All (InTree tree) files → length tree ≤ length work
     → (i : ℕ) → All (λ f. (i < f .textAt) ⊎ (f .textAt + length (f .text) ≤ i)) files → getD (blankInto files work) i 0 ≡ getD work i 0
 unfolding blankInto
 blank-outside tree [] work p l i h = refl
@@ -79,17 +78,6 @@ work-blanked tree work t l =
     }
 
 -- RECORDS
-
-wide-file : (file : Source) (fs : List TextFun) → All (λ r. length (recordBytes r) ≡ 32) (map (recordOf file) fs)
-wide-file file [] = tt
-wide-file file (f ∷ fs) = (record-width file f, wide-file file fs)
-
-wide-files : (files : List Source) → All (λ r. length (recordBytes r) ≡ 32) (recordsOfFiles files)
-unfolding recordsOfFiles recordsIn
-wide-files [] = tt
-wide-files (file ∷ files) =
-    let fs = functions (blanked (file .text)) in
-    All-append (λ r. length (recordBytes r) ≡ 32) (map (recordOf file) fs) (recordsOfFiles files) (wide-file file fs) (wide-files files)
 
 -- the first so many, of no more than there are
 take-map : {A B : Type 0} (g : A → B) (n : ℕ) (l : List A) → take n (map g l) ≡ map g (take n l)
@@ -114,7 +102,7 @@ unfolding gate records
 records-put tree buffer n m e =
     let rs = recordsOfFiles (sources tree) in
     let same : take n (map recordBytes rs) ≡ map recordBytes (take m rs) = take-map recordBytes n rs ∙ ap (map recordBytes) (take-least n m rs e) in
-    let size = bytes-length m rs (wide-files (sources tree)) (omega arith) in
+    let size = bytes-length m rs (records-wide (sources tree)) (omega arith) in
     ap (λ bytes. overwritten (joined bytes) buffer) same ∙ ap (λ k. joined (map recordBytes (take m rs)) ++ drop k buffer) size
 
 -- WHAT THE NUMBER TELLS
@@ -147,9 +135,6 @@ at-scanned P p₀ p₈ p₉ n (inr (inr e)) = rw e p₉
 at-listed : (P : ℕ → Type 0) → P 0 → P 9 → (n : ℕ) → (n ≡ 0) ⊎ (n ≡ 9) → P n
 at-listed P p₀ p₉ n (inl e) = rw e p₀
 at-listed P p₀ p₉ n (inr e) = rw e p₉
-
-sound : (tree : List ℕ) → All Fails (treeRows tree) → SoundTree tree
-sound tree h = unrefused tree (exactly-zero (treeRows tree) (tree-different tree) (treeRefusal tree) (tree-first tree) .1 h)
 
 -- the numbers with which a tree is scanned are none of those before them
 apart : (n : ℕ) → (n ≡ 0) ⊎ (n ≡ 8) ⊎ (n ≡ 9) → (k : ℕ) → 1 ≤ k → k ≤ 7 → n ≢ k
@@ -230,11 +215,6 @@ output-leaves-as (suc n) text text′ output h = record { refused-output = λ l.
 pub output-leaves : (number : ℕ) (text output : List ℕ) → OutputLeft text output number (outputAfter number text output)
 output-leaves number text output = output-leaves-as number text text output (λ e. refl)
 
-sums-length : (functionsIn : List File → List Fun) (n : ℕ) (files : List File) → length (sumsFrom functionsIn n files) ≡ length files
-unfolding sumsFrom
-sums-length functionsIn n [] = refl
-sums-length functionsIn n (file ∷ files) = ap suc (sums-length functionsIn (suc n) files)
-
 sums-count : (tree : List ℕ) → length (sumsOf gate tree) ≡ length (sources tree)
 unfolding sumsOf gate
 sums-count tree = sums-length (gate .functionsIn) 0 (gate .files tree) ∙ length-map (sources tree) fileOf
@@ -292,9 +272,9 @@ blank-left text output =
       counts = answer-counts (blankNumber text output) (length text) 0;
     }
 
--- work shorter than the tree is 5's condition
-work-holds-tree : (tree work : List ℕ) → (TooShort work tree → ⊥) → length tree ≤ length work
-work-holds-tree tree work h = omega arith
+-- a buffer that is not too short for a text: work for the tree, and an output for its listing
+long-enough : (text buffer : List ℕ) → (TooShort buffer text → ⊥) → length text ≤ length buffer
+long-enough text buffer h = omega arith
 
 pub scan-left : (tree work records′ : List ℕ) → ScannedLeft tree work records′ (scanCall gate tree work records′)
 unfolding scanCall
@@ -303,7 +283,7 @@ scan-left tree work records′ =
     record {
       scan-buffers =
           rw (answer-number number)
-          (scan-leaves tree work records′ (TooShort work tree) (work-holds-tree tree work) [] [] tt number (scan-number tree work records′));
+          (scan-leaves tree work records′ (TooShort work tree) (long-enough tree work) [] [] tt number (scan-number tree work records′));
       counts = answer-counts number 0 (length (functionsOf gate tree));
     }
 
@@ -315,7 +295,7 @@ module _ (L : Limits) where
       record {
         scan-buffers =
             rw (checked-number L number)
-            (scan-leaves tree work records′ (TooShort work tree) (work-holds-tree tree work) (7 if LongBaseline baseline ∷ []) _ (omega arith) number
+            (scan-leaves tree work records′ (TooShort work tree) (long-enough tree work) (7 if LongBaseline baseline ∷ []) _ (omega arith) number
             (check-number L tree baseline work records′ output));
         output-buffer = rw (checked-number L number) (output-leaves number (listing L (entries baseline) (functionsOf gate tree)) output);
         counts = check-counts L number (entries baseline) (functionsOf gate tree);
@@ -328,7 +308,7 @@ module _ (L : Limits) where
       record {
         scan-buffers =
             rw (updated-number L number)
-            (scan-leaves tree work records′ (TooShort work tree) (work-holds-tree tree work) [] _ tt number (update-number L tree work records′ output));
+            (scan-leaves tree work records′ (TooShort work tree) (long-enough tree work) [] _ tt number (update-number L tree work records′ output));
         output-buffer = rw (updated-number L number) (output-leaves number (baselineText L (functionsOf gate tree)) output);
         counts = update-counts L number (functionsOf gate tree);
       }
@@ -340,7 +320,7 @@ module _ (L : Limits) where
       record {
         scan-buffers =
             rw (answer-number number)
-            (scan-leaves tree work records′ (TooShort work tree) (work-holds-tree tree work) (6 if FewSums sums tree ∷ []) _ (omega arith) number
+            (scan-leaves tree work records′ (TooShort work tree) (long-enough tree work) (6 if FewSums sums tree ∷ []) _ (omega arith) number
             (report-number L tree work records′ sums output));
         sums-table = rw (answer-number number) (sums-leave tree sums number);
         output-buffer = rw (answer-number number) (output-leaves number (reportOf gate L tree) output);
@@ -354,13 +334,13 @@ module _ (width : ℕ) (tree text put values work records′ output counts : Lis
     (f : First (treeRows tree ++ (5 if FewCounts width work tree counts ∷ between) ++ (8 if ManyFunctions records′ tree ∷ behind)) number)
     (same : number ≡ 0 → put ≡ values) where
   exported-leaves : ExportedLeft tree text values work records′ output counts (exportedAt gate number tree text put work records′ output counts)
-  unfolding exportedAt countBytes
+  unfolding exportedAt
   exported-leaves =
       record {
         scan-buffers =
-            scan-leaves tree work records′ (FewCounts width work tree counts) (λ h. work-holds-tree tree work (λ l. h (inl l))) between behind six-seven number f;
+            scan-leaves tree work records′ (FewCounts width work tree counts) (λ h. long-enough tree work (λ l. h (inl l))) between behind six-seven number f;
         output-buffer = output-leaves number text output;
-        counts-buffer = output-leaves-as number _ _ counts (λ e. ap (λ vs. joined (map u32Bytes vs)) (same e));
+        counts-buffer = output-leaves-as number _ _ counts (λ e. ap (λ vs. u32sBytes vs) (same e));
       }
 
 pub exported-blank-left : (text output : List ℕ) → OutputLeft (blanked text) output (exportedBlank text output .number) (exportedBlank text output .output)
@@ -408,3 +388,114 @@ module _ (L : Limits) where
   exported-report-left tree work records′ output counts =
       exported-leaves 8 tree _ _ _ work records′ output counts [] _ tt _
       (exported-report-first L tree work records′ output counts) (λ e. refl)
+
+-- LENGTHS: no call changes that of a buffer
+
+-- the numbers of the calls: those with which a tree is not scanned, and the others
+scanned-or-not : (n : ℕ) → n ≤ 9 → ((1 ≤ n) × (n ≤ 7)) ⊎ ((n ≡ 0) ⊎ (n ≡ 8) ⊎ (n ≡ 9))
+scanned-or-not n h =
+    elim (whether (eqb n 0)) [
+      | inl e ↦ inr (inl (eqb-true n 0 e))
+      | inr e ↦ elim (whether (leb n 7)) [
+        | inl k ↦ let m = eqb-false n 0 e in inl (omega arith, leb-true n 7 k)
+        | inr k ↦ let m = leb-false n 7 k in elim (whether (eqb n 8)) [
+          | inl q ↦ inr (inr (inl (eqb-true n 8 q)))
+          | inr q ↦ let p = eqb-false n 8 q in inr (inr (inr (omega arith)))
+        ]
+      ]
+    ]
+
+-- as records and work are left, at a number from 0 to 9
+scan-lengths : (tree work records′ : List ℕ) (number : ℕ) → ScanLeft tree work records′ number (workAfter gate number tree work) (recordsAfter gate number tree records′) → number ≤ 9
+    → (length (workAfter gate number tree work) ≡ length work) × (length (recordsAfter gate number tree records′) ≡ length records′)
+unfolding recordsAfter
+scan-lengths tree work records′ number left h =
+    let there = records-length tree records′ in
+    ⊎-elim
+    (λ r. (ap length (left .refused-work (r .0) (r .1)), ap length (left .refused-records (r .0) (r .1))))
+    (λ s. (left .scanned-work s .same-length, at-scanned (λ n. length (recordsAfter gate n tree records′) ≡ length records′) there there there number s))
+    (scanned-or-not number h)
+
+-- an output is written only where the text fits
+output-length : (text output output′ : List ℕ) (number : ℕ) → OutputLeft text output number output′ → (number ≡ 0 → length text ≤ length output) → length output′ ≡ length output
+output-length text output output′ zero left h = ap length (left .written-output refl) ∙ overwritten-length text output (h refl)
+output-length text output output′ (suc n) left h = ap length (left .refused-output (omega arith))
+
+-- sums are written only where there is an entry for each file
+sums-kept : (tree : List ℕ) (sums sums′ : List FileSum) (number : ℕ) → SumsLeft tree sums number sums′ → number ≤ 9 → ((number ≡ 0) ⊎ (number ≡ 9) → FewSums sums tree → ⊥)
+    → length sums′ ≡ length sums
+sums-kept tree sums sums′ number left h few =
+    elim (whether (eqb number 0)) [
+      | inl e ↦ written (inl (eqb-true number 0 e))
+      | inr e ↦ elim (whether (eqb number 9)) [
+        | inl k ↦ written (inr (eqb-true number 9 k))
+        | inr k ↦ let m = eqb-false number 0 e in let p = eqb-false number 9 k in ap length (left .refused-sums (omega arith) (omega arith))
+      ]
+    ]
+  where
+    written : (number ≡ 0) ⊎ (number ≡ 9) → length sums′ ≡ length sums
+    written s =
+        let enough : FewSums sums tree → ⊥ = few s in
+        ap length (left .written-sums s .written) ∙ simp (length-append, length-drop) (omega (arith, sums-count tree))
+
+pub record SameLengths (work records output work′ records′ output′ : List ℕ) : Type 0 where
+  pub same-work : length work′ ≡ length work
+  pub same-records : length records′ ≡ length records
+  pub same-output : length output′ ≡ length output
+
+pub scan-keeps : (tree work records′ : List ℕ) → let c = scanCall gate tree work records′ in (length (c .work) ≡ length work) × (length (c .records) ≡ length records′)
+unfolding scanCall
+scan-keeps tree work records′ =
+    let f = scan-number tree work records′ in
+    scan-lengths tree work records′ (scanNumber gate tree work records′)
+    (scan-leaves tree work records′ (TooShort work tree) (long-enough tree work) [] [] tt _ f)
+    (at-most 9 _ (scanTable tree work records′) (omega arith) f)
+
+module _ (L : Limits) where
+  pub check-keeps : (tree baseline work records′ output : List ℕ)
+      → let c = checkCall gate L tree baseline work records′ output in SameLengths work records′ output (c .work) (c .records) (c .output)
+  unfolding checkCall
+  check-keeps tree baseline work records′ output =
+      let f = check-number L tree baseline work records′ output in
+      let (w, r) = scan-lengths tree work records′ (checkNumber gate L tree baseline work records′ output)
+      (scan-leaves tree work records′ (TooShort work tree) (long-enough tree work) (7 if LongBaseline baseline ∷ []) _ (omega arith) _ f)
+      (at-most 9 _ (checkTable L tree baseline work records′ output) (omega arith) f) in
+      record {
+        same-work = w;
+        same-records = r;
+        same-output = output-length _ output _ _ (output-leaves _ _ output)
+            (λ z. long-enough (listing L (entries baseline) (functionsOf gate tree)) output (exactly-zero _ (check-different L tree baseline work records′ output) _ f .0 z .1 .1 .1 .1 .1 .1 .1 .0));
+      }
+
+  pub update-keeps : (tree work records′ output : List ℕ)
+      → let u = updateCall gate L tree work records′ output in SameLengths work records′ output (u .work) (u .records) (u .output)
+  unfolding updateCall
+  update-keeps tree work records′ output =
+      let f = update-number L tree work records′ output in
+      let (w, r) = scan-lengths tree work records′ (updateNumber gate L tree work records′ output)
+      (scan-leaves tree work records′ (TooShort work tree) (long-enough tree work) [] _ tt _ f)
+      (at-most 9 _ (updateTable L tree work records′ output) (omega arith) f) in
+      record {
+        same-work = w;
+        same-records = r;
+        same-output = output-length _ output _ _ (output-leaves _ _ output)
+            (λ z. long-enough (baselineText L (functionsOf gate tree)) output (exactly-zero _ (update-different L tree work records′ output) _ f .0 z .1 .1 .1 .1 .1 .1 .0));
+      }
+
+  pub report-keeps : (tree work records′ : List ℕ) (sums : List FileSum) (output : List ℕ)
+      → let r = reportCall gate L tree work records′ sums output in SameLengths work records′ output (r .work) (r .records) (r .output) × (length (r .sums) ≡ length sums)
+  unfolding reportCall
+  report-keeps tree work records′ sums output =
+      let f = report-number L tree work records′ sums output in
+      let (w, r) = scan-lengths tree work records′ (reportNumber gate L tree work records′ sums output)
+      (scan-leaves tree work records′ (TooShort work tree) (long-enough tree work) (6 if FewSums sums tree ∷ []) _ (omega arith) _ f)
+      (at-most 9 _ (reportTable L tree work records′ sums output) (omega arith) f) in (
+        record {
+          same-work = w;
+          same-records = r;
+          same-output = output-length _ output _ _ (output-leaves _ _ output)
+              (λ z. long-enough (reportOf gate L tree) output (exactly-zero _ (report-different L tree work records′ sums output) _ f .0 z .1 .1 .1 .1 .1 .1 .1 .0));
+        },
+        sums-kept tree sums _ _ (sums-leave tree sums _) (at-most 9 _ (reportTable L tree work records′ sums output) (omega arith) f)
+            (λ s. before-eight tree work records′ (TooShort work tree) (long-enough tree work) (6 if FewSums sums tree ∷ []) _ (omega arith) _ f (with-eight s) .1 .1 .1 .1 .1 .0),
+      )

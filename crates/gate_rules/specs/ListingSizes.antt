@@ -21,8 +21,9 @@ use Rattle.gate_rules.specs.Functions.{Fun, Limits, key, over}
 use Rattle.gate_rules.specs.Gate.{gate}
 use Rattle.gate_rules.specs.GateLaws.{gate-laws}
 use Rattle.gate_rules.specs.MeanLaws.{mean-length}
-use Rattle.gate_rules.specs.Report.{Weight, heavier, heaviest, justified, reportRow, reportRows, reportText, reported, weightRows, weights, worse}
+use Rattle.gate_rules.specs.Report.{Weight, heaviest, justified, reportRow, reportRows, reportText, reported, weightRows, weights, worse}
 use Rattle.gate_rules.specs.ReportCall.{reportOf}
+use Rattle.gate_rules.specs.RowLaws.{heaviest-first}
 use Rattle.gate_rules.specs.Scan.{Accepted, functionsOf}
 use Rattle.gate_rules.specs.SettlesProof.{text-length}
 use Rattle.gate_rules.specs.StaleLaws.{stale-most}
@@ -207,9 +208,9 @@ number-length width n h k = justified-length width (decimal n) h (decimal-length
 row-most : Fun → ℕ
 row-most f = 1082 + length (f .name)
 
-row-length : (f : Fun) → Sized f → length (reportRow f) ≤ row-most f
+report-row-length : (f : Fun) → Sized f → length (reportRow f) ≤ row-most f
 unfolding reportRow row-most
-row-length f s =
+report-row-length f s =
     simp length-append
     (omega (
       arith,
@@ -220,10 +221,10 @@ row-length f s =
       number-length 6 (f .params) (omega arith) (s .params-u32),
     ))
 
-rows-length : (fs : List Fun) → All Sized fs → length (reportRows fs) ≤ total row-most fs
+report-rows-length : (fs : List Fun) → All Sized fs → length (reportRows fs) ≤ total row-most fs
 unfolding reportRows
-rows-length [] h = omega arith
-rows-length (f ∷ fs) h = simp length-append (omega (arith, row-length f (h .0), rows-length fs (h .1)))
+report-rows-length [] h = omega arith
+report-rows-length (f ∷ fs) h = simp length-append (omega (arith, report-row-length f (h .0), report-rows-length fs (h .1)))
 
 -- the rows of the heaviest files, of which there are at most ten
 weight-rows : (tree : List ℕ) → length tree ≤ 16777216 → (ws : List Weight) → All (Weighed tree) ws → length (weightRows ws) ≤ 1037 * length ws
@@ -240,9 +241,10 @@ All-take P (suc n) [] h = tt
 All-take P (suc n) (x ∷ xs) h = (h .0, All-take P n xs (h .1))
 
 heaviest-rows : (tree : List ℕ) → length tree ≤ 16777216 → (ws : List Weight) → All (Weighed tree) ws → length (weightRows (heaviest ws)) ≤ 10370
-unfolding heaviest
 heaviest-rows tree short ws h =
-    omega (arith, weight-rows tree short (take 10 (sort heavier ws)) (All-take (Weighed tree) 10 (sort heavier ws) (sort-all heavier (Weighed tree) ws h)), length-take 10 (sort heavier ws))
+    let (sorted, s, e) = heaviest-first ws in
+    let each : All (Weighed tree) sorted = All-map (λ w. w ∈ sorted) (Weighed tree) (λ w m. All-at (Weighed tree) ws h (s .complete w .0 m)) sorted (All-in sorted) in
+    rw e (omega (arith, weight-rows tree short (take 10 sorted) (All-take (Weighed tree) 10 sorted each), length-take 10 sorted))
 
 module _ (L : Limits) where
   -- the over-limit functions are no more than all functions
@@ -260,7 +262,7 @@ module _ (L : Limits) where
       let over′ : All Sized (overLimit L fs) = All-map _ Sized (λ f h. h .0) (overLimit L fs) (kept-all (over L) Sized fs sized) in
       omega (
         arith,
-        rows-length (sort worse (overLimit L fs)) (sort-all worse Sized (overLimit L fs) over′),
+        report-rows-length (sort worse (overLimit L fs)) (sort-all worse Sized (overLimit L fs) over′),
         sort-total worse row-most (overLimit L fs),
         kept-total (over L) row-most fs,
         total-both (λ f. 1082) (λ f. length (f .name)) fs,

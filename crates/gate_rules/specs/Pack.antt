@@ -3,12 +3,12 @@
 use Prim.Native.Nat.{ℕ, zero, suc, _+_, _*_, _≤_}
 use mathlib.Core.Path.{_≡_}
 use mathlib.Core.Bool.{true}
-use mathlib.Core.List.{List, [], _∷_, _++_}
+use mathlib.Core.List.{List, [], _++_, _∷_, map}
 use lib.ListN.{length}
 use Rattle.text_rules.specs.Bytes.{All, joined}
 use Rattle.text_rules.specs.U32.{u32Bytes}
 use Rattle.text_rules.specs.Utf8.{isUtf8}
-use Rattle.gate_rules.specs.Tree.{Source, isPath, pathBefore}
+use Rattle.gate_rules.specs.Tree.{PathsUp, Source, isPath}
 
 -- a file to pack
 pub record InputFile : Type 0 where
@@ -41,12 +41,6 @@ packedTexts (f ∷ fs) = f .path ++ (f .text ++ packedTexts fs)
 unfoldable pub packed : List InputFile → List ℕ
 packed files = u32Bytes (length files) ++ (packedTable (4 + 16 * length files) files ++ packedTexts files)
 
--- each path stands behind the one before
-abbrev pub InOrder : List InputFile → Type 0
-InOrder [] = Unit {0}
-InOrder (f ∷ []) = Unit {0}
-InOrder (f ∷ g ∷ fs) = (pathBefore (f .path) (g .path) ≡ true) × InOrder (g ∷ fs)
-
 -- the files that make a tree which none of the refusals 1 to 4 applies to
 pub record Packable (files : List InputFile) : Type 0 where
   pub few : length files ≤ 1024
@@ -54,7 +48,7 @@ pub record Packable (files : List InputFile) : Type 0 where
   pub path-some : All (λ f. 1 ≤ length (f .path)) files
   pub path-short : All (λ f. length (f .path) ≤ 1024) files
   pub path-good : All (λ f. isPath (f .path) ≡ true) files
-  pub path-order : InOrder files
+  pub path-order : PathsUp (map (λ f. f .path) files)
   pub text-good : All (λ f. isUtf8 (f .text) ≡ true) files
 
 -- so many numbers, the first given

@@ -11,9 +11,10 @@ use Rattle.text_rules.specs.Bytes.{All}
 use Rattle.text_rules.specs.U32.{u32At, u32Bytes}
 use Rattle.text_rules.specs.U32Laws.{u32-drop, u32-read}
 use Rattle.text_rules.specs.Utf8.{isUtf8}
-use Rattle.gate_rules.specs.Pack.{InOrder, InputFile, Packable, numbersFrom, packed, packedEntry, packedTable, packedTexts, placeAfter}
+use Rattle.gate_rules.specs.ConditionLaws.{behind-empty}
+use Rattle.gate_rules.specs.Pack.{InputFile, Packable, numbersFrom, packed, packedEntry, packedTable, packedTexts, placeAfter}
 use Rattle.gate_rules.specs.ScanForms.{entry-last, layout-rest}
-use Rattle.gate_rules.specs.Tree.{Source, entriesFit, entryFits, fileCount, isLaidOut, isPath, pathBefore, pathLength, pathOffset, pathsRise, sourceAt, sources, sourcesFrom, textLength, textOffset, textsGood, treeRefusal}
+use Rattle.gate_rules.specs.Tree.{PathsUp, Source, entriesFit, entryFits, fileCount, isLaidOut, isPath, pathLength, pathOffset, pathsRise, sourceAt, sources, sourcesFrom, textLength, textOffset, textsGood, treeRefusal}
 
 -- a file as it is read back
 placedSource : (number running : ℕ) → InputFile → Source
@@ -152,30 +153,16 @@ packed-count : (files : List InputFile) → length files ≤ 1024 → fileCount 
 unfolding fileCount packed
 packed-count files few = u32-read (length files) _ (omega arith)
 
--- each path stands behind the last
-abbrev Behind : List ℕ → List InputFile → Type 0
-Behind last [] = Unit {0}
-Behind last (f ∷ fs) = pathBefore last (f .path) ≡ true
-
-behind : (f : InputFile) (fs : List InputFile) → InOrder (f ∷ fs) → Behind (f .path) fs × InOrder fs
-behind f [] o = (tt, tt)
-behind f (g ∷ fs) o = o
-
-rises : (last : List ℕ) (number running : ℕ) (fs : List InputFile) → All (λ f. isPath (f .path) ≡ true) fs → Behind last fs → InOrder fs → pathsRise last (placedSources number running fs) ≡ true
+packed-rise : (last : List ℕ) (number running : ℕ) (fs : List InputFile) → All (λ f. isPath (f .path) ≡ true) fs → PathsUp (last ∷ map (λ f. f .path) fs)
+    → pathsRise last (placedSources number running fs) ≡ true
 unfolding pathsRise placedSources placedSource
-rises last number running [] g b o = refl
-rises last number running (f ∷ fs) g b o =
-    let (b′, o′) = behind f fs o in
-    rw (g .0, b) (rises (f .path) (suc number) (placeAfter running f) fs (g .1) b′ o′)
+packed-rise last number running [] g u = refl
+packed-rise last number running (f ∷ fs) g u = rw (g .0, u .0) (packed-rise (f .path) (suc number) (placeAfter running f) fs (g .1) (u .1))
 
-after-none : (path : List ℕ) → 1 ≤ length path → pathBefore [] path ≡ true
-unfolding pathBefore
-after-none [] h = absurd (omega arith)
-after-none (b ∷ path) h = refl
-
-first-behind : (fs : List InputFile) → All (λ f. 1 ≤ length (f .path)) fs → Behind [] fs
-first-behind [] h = tt
-first-behind (f ∷ fs) h = after-none (f .path) (h .0)
+-- the first path, which has a byte, stands behind the empty path
+from-empty : (fs : List InputFile) → All (λ f. 1 ≤ length (f .path)) fs → PathsUp (map (λ f. f .path) fs) → PathsUp ([] ∷ map (λ f. f .path) fs)
+from-empty [] h u = tt
+from-empty (f ∷ fs) h u = (behind-empty (f .path) (h .0), u)
 
 texts-good : (number running : ℕ) (fs : List InputFile) → All (λ f. isUtf8 (f .text) ≡ true) fs → textsGood (placedSources number running fs) ≡ true
 unfolding textsGood placedSources placedSource
@@ -206,7 +193,7 @@ module _ (files : List InputFile) (p : Packable files) where
         le-ltb 16777216 (length (packed files)) (p .whole),
         packed-laid,
         packed-sources,
-        rises [] 0 (4 + 16 * length files) files (p .path-good) (first-behind files (p .path-some)) (p .path-order),
+        packed-rise [] 0 (4 + 16 * length files) files (p .path-good) (from-empty files (p .path-some) (p .path-order)),
         texts-good 0 (4 + 16 * length files) files (p .text-good),
       )
 

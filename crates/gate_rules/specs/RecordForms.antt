@@ -3,16 +3,17 @@ use Prim.Native.Nat.{ℕ, zero, suc, _+_, _*_, _-_, _/_, _≤_, _<_, min}
 use mathlib.Core.Path.{_≡_, refl, ap, ap₂, sym, _∙_, subst}
 use mathlib.Core.Logic.{inl, inr}
 use mathlib.Core.Bool.{true, false}
-use mathlib.Core.List.{List, [], _∷_, _++_, append-assoc, append-nil}
+use mathlib.Core.List.{List, [], _++_, _∷_, append-assoc}
 use native.Mathlib.Omega.{arith}
 use lib.Dec.{ltb}
-use lib.ListN.{length, take, drop, take-append-drop}
+use lib.ListN.{drop, length, take}
 use borrow.Author.Tests.{le-ltb, lt-ltb, ltb-false, ltb-true}
 use Rattle.text_rules.specs.Bytes.{All, if_then_else_, joined, overwritten, putAt}
 use Rattle.text_rules.specs.BytesLaws.{whether}
 use Rattle.text_rules.specs.PutLaws.{put-length, put-next}
 use Rattle.text_rules.specs.Sizes.{maxFunctions, recordWidth}
-use Rattle.gate_rules.specs.BufferLaws.{joined-length}
+use Rattle.text_rules.specs.WriterLaws.{put-none}
+use Rattle.gate_rules.specs.BufferLaws.{wide-joined}
 use Rattle.gate_rules.specs.Calls.{room}
 
 -- the record with a number, put at its place, if there is room for it
@@ -63,18 +64,13 @@ unfolding putRecords putRecord
 beyond number [] buffer h = refl
 beyond number (r ∷ rs) buffer h = rw (le-ltb number (room buffer) h) (beyond (suc number) rs buffer (omega arith))
 
-put-nil : (at : ℕ) (s : List ℕ) → putAt at [] s ≡ s
-put-nil at s =
-    let e : at + 0 ≡ at = omega arith in
-    ap₂ (λ p n. p ++ drop n s) (append-nil (take at s)) e ∙ take-append-drop at s
-
 joined-some : (n room′ : ℕ) (r : List ℕ) (rs : List (List ℕ)) → n < room′ → joined (take (room′ - n) (r ∷ rs)) ≡ r ++ joined (take (room′ - suc n) rs)
 joined-some n room′ r rs h = let e : room′ - n ≡ suc (room′ - suc n) = omega arith in ap (λ k. joined (take k (r ∷ rs))) e
 
 from-number : (number : ℕ) (rs : List (List ℕ)) → All Wide rs → (buffer : List ℕ) → number ≤ room buffer
     → putRecords number rs buffer ≡ putAt (recordWidth * number) (joined (take (room buffer - number) rs)) buffer
 unfolding putRecords
-from-number number [] w buffer h = sym (ap (λ t. putAt (recordWidth * number) t buffer) (none (room buffer - number)) ∙ put-nil (recordWidth * number) buffer)
+from-number number [] w buffer h = sym (ap (λ t. putAt (recordWidth * number) t buffer) (none (room buffer - number)) ∙ put-none (recordWidth * number) buffer)
   where
     none : (k : ℕ) → joined (take k []) ≡ []
     none zero = refl
@@ -84,7 +80,7 @@ from-number number (r ∷ rs) w buffer h =
       | inr e ↦
           let full : room buffer ≤ number = ltb-false number (room buffer) e in
           let z : room buffer - number ≡ 0 = omega arith in
-          beyond number (r ∷ rs) buffer full ∙ sym (ap (λ k. putAt (recordWidth * number) (joined (take k (r ∷ rs))) buffer) z ∙ put-nil (recordWidth * number) buffer)
+          beyond number (r ∷ rs) buffer full ∙ sym (ap (λ k. putAt (recordWidth * number) (joined (take k (r ∷ rs))) buffer) z ∙ put-none (recordWidth * number) buffer)
       | inl e ↦
           let more : number < room buffer = ltb-true number (room buffer) e in
           let put : List ℕ = putAt (recordWidth * number) r buffer in
@@ -92,7 +88,7 @@ from-number number (r ∷ rs) w buffer h =
           let size : length put ≡ length buffer = put-length (recordWidth * number) r buffer (omega (arith, w .0)) in
           let roomy : room put ≡ room buffer = ap (λ n. min maxFunctions (n / recordWidth)) size in
           let rest : List ℕ = joined (take (room buffer - suc number) rs) in
-          let short : length (joined (take (room buffer - suc number) rs)) ≤ recordWidth * (room buffer - suc number) = joined-length (room buffer - suc number) rs (w .1) in
+          let short : length (joined (take (room buffer - suc number) rs)) ≤ recordWidth * (room buffer - suc number) = wide-joined (room buffer - suc number) rs (w .1) in
           let behind : recordWidth * suc number ≡ recordWidth * number + length r = omega (arith, w .0) in
           ap (putRecords (suc number) rs) here
           ∙ from-number (suc number) rs (w .1) put (omega arith)

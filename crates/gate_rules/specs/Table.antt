@@ -5,7 +5,7 @@ use Prim.Native.Nat.{ℕ, zero, suc, _+_, _*_, _/_, _≤_, _<_}
 use mathlib.Core.Path.{_≡_}
 use mathlib.Core.Bool.{true}
 use mathlib.Core.Logic.{_⊎_, _≢_}
-use mathlib.Core.List.{List, [], _∷_, _++_}
+use mathlib.Core.List.{List, [], _++_, _∷_, map}
 use lib.ListN.{length, getD}
 use Rattle.text_rules.specs.Bytes.{All, Lacks}
 use Rattle.text_rules.specs.U32.{u32At}
@@ -17,7 +17,7 @@ use Rattle.gate_rules.specs.Gate.{gate}
 use Rattle.gate_rules.specs.Report.{FileSum}
 use Rattle.gate_rules.specs.ReportCall.{reportOf}
 use Rattle.gate_rules.specs.Scan.{functionsOf}
-use Rattle.gate_rules.specs.Tree.{Source, pathBefore, sources}
+use Rattle.gate_rules.specs.Tree.{PathsUp, Source, sources}
 use Rattle.gate_rules.specs.Update.{baselineText}
 
 -- a row: the number returned, and when
@@ -80,15 +80,10 @@ pub record PathFine (path : List ℕ) : Type 0 where
   pub no-hash : getD path 0 0 ≢ 35
   pub utf8 : isUtf8 path ≡ true
 
--- each path stands behind the one before
-abbrev pub Rising : List Source → Type 0
-Rising [] = Unit {0}
-Rising (f ∷ []) = Unit {0}
-Rising (f ∷ g ∷ fs) = (pathBefore (f .path) (g .path) ≡ true) × Rising (g ∷ fs)
-
+-- every path is fine, and each stands behind the one before
 pub record GoodPaths (files : List Source) : Type 0 where
   pub fine : All (λ f. PathFine (f .path)) files
-  pub rising : Rising files
+  pub rising : PathsUp (map (λ f. f .path) files)
 
 -- 3: a path has a tab or LF, starts with #, isn't UTF-8, or doesn't rise
 abbrev pub BadPath : List ℕ → Type 0

@@ -1,6 +1,6 @@
 -- Every call answers as its table says: the number is that of the first row whose condition holds, and 0 where none does, for every input.
 -- So each number is returned exactly when its own condition holds and those of the rows before it fail, and a call succeeds whenever the
--- tree is accepted and the lent buffers suffice.
+-- tree is accepted and the lent buffers suffice (check and update: CallLaws, for any scan).
 use Prim.Native.Nat.{ℕ, zero, suc, _*_, _≤_, _<_}
 use mathlib.Core.Path.{_≡_, refl, sym, _∙_}
 use mathlib.Core.Bool.{Bool, true, false}
@@ -12,16 +12,16 @@ use lib.ListN.{length, length-map, length-replicate}
 use borrow.Author.Tests.{not-false}
 use Rattle.text_rules.specs.Answer.{answerAt}
 use Rattle.text_rules.specs.Bytes.{All, _orElse_, _when_}
+use Rattle.text_rules.specs.ScanLaws.{orElse-some}
 use Rattle.source_rules.specs.BlankCall.{blankCall, blankNumber}
-use Rattle.gate_rules.specs.Baseline.{entries}
-use Rattle.gate_rules.specs.CallLaws.{checked-number, updated-number}
-use Rattle.gate_rules.specs.Calls.{checkCall, checkNumber, room, scanCall, scanNumber, updateCall, updateNumber}
+use Rattle.gate_rules.specs.Baseline.{Entry, entries}
+use Rattle.gate_rules.specs.Calls.{checkAnswer, checkCall, checkNumber, room, scanCall, scanNumber, updateAnswer, updateCall, updateNumber}
 use Rattle.gate_rules.specs.Check.{listing}
 use Rattle.gate_rules.specs.ConditionLaws.{Decides, files-count, layout-spelled, less-decides, not-decides, paths-spelled, room-decides, texts-spelled}
-use Rattle.gate_rules.specs.Exports.{exportNumber, exportedAt, exportedBlank, exportedCheck, exportedReport, exportedScan, exportedUpdate, ownTable}
-use Rattle.gate_rules.specs.Functions.{Limits}
+use Rattle.gate_rules.specs.Exports.{exportNumber, exportedAt, exportedBlank, exportedCheck, exportedReport, exportedScan, exportedUpdate}
+use Rattle.gate_rules.specs.Functions.{Fun, Limits}
 use Rattle.gate_rules.specs.Gate.{fileOf, gate}
-use Rattle.gate_rules.specs.Report.{FileSum}
+use Rattle.gate_rules.specs.Report.{FileSum, emptySums, noSum}
 use Rattle.gate_rules.specs.ReportCall.{reportCall, reportNumber, reportOf}
 use Rattle.gate_rules.specs.Scan.{Accepted, functionsOf}
 use Rattle.gate_rules.specs.Table.{BadPath, BadText, Different, Fails, FewCounts, FewSums, First, ManyFunctions, Row, TooLong, TooShort, Unlaid, _if_, blankTable, checkTable, exportedCheckTable, exportedReportTable, exportedScanTable, exportedUpdateTable, reportTable, scanTable, treeRows, updateTable}
@@ -41,17 +41,17 @@ in-middle : (P : Row → Type 0) (before : List Row) (r : Row) (after : List Row
 in-middle P [] r after h = h .0
 in-middle P (q ∷ before) r after h = in-middle P before r after (h .1)
 
-split : (before : List Row) (r : Row) (after : List Row) (n : ℕ) → Different (before ++ r ∷ after) → First (before ++ r ∷ after) n → (n ≡ r .number) ↔ (r .holds × All Fails before)
+exactly-at : (before : List Row) (r : Row) (after : List Row) (n : ℕ) → Different (before ++ r ∷ after) → First (before ++ r ∷ after) n → (n ≡ r .number) ↔ (r .holds × All Fails before)
 unfolding First Different
-split [] r after n d (inl (h, e)) = (λ k. (h, tt), λ k. e)
-split [] r after n d (inr (h, f)) = (λ k. absurd (other after (r .number) n (d .0) (d .1) f k), λ k. absurd (h (k .0)))
-split (q ∷ before) r after n d (inl (h, e)) = (λ k. absurd (in-middle (λ p. p .number ≢ q .number) before r after (d .1) (sym k ∙ e)), λ k. absurd (k .1 .0 h))
-split (q ∷ before) r after n d (inr (h, f)) = let (to, from) = split before r after n (d .2) f in (λ k. (to k .0, (h, to k .1)), λ k. from (k .0, k .1 .1))
+exactly-at [] r after n d (inl (h, e)) = (λ k. (h, tt), λ k. e)
+exactly-at [] r after n d (inr (h, f)) = (λ k. absurd (other after (r .number) n (d .0) (d .1) f k), λ k. absurd (h (k .0)))
+exactly-at (q ∷ before) r after n d (inl (h, e)) = (λ k. absurd (in-middle (λ p. p .number ≢ q .number) before r after (d .1) (sym k ∙ e)), λ k. absurd (k .1 .0 h))
+exactly-at (q ∷ before) r after n d (inr (h, f)) = let (to, from) = exactly-at before r after n (d .2) f in (λ k. (to k .0, (h, to k .1)), λ k. from (k .0, k .1 .1))
 
 -- a row's number is returned exactly where its condition holds and those of the rows before it fail
 pub exactly : (rows : List Row) → Different rows → (n : ℕ) → First rows n → (before : List Row) (r : Row) (after : List Row) → rows ≡ before ++ r ∷ after
     → (n ≡ r .number) ↔ (r .holds × All Fails before)
-exactly rows d n f before r after e = split before r after n (rw e at d) (rw e at f)
+exactly rows d n f before r after e = exactly-at before r after n (rw e at d) (rw e at f)
 
 -- and 0 exactly where every condition fails
 pub exactly-zero : (rows : List Row) → Different rows → (n : ℕ) → First rows n → (n ≡ 0) ↔ All Fails rows
@@ -102,14 +102,14 @@ row-last k true d = inl (d .holds refl, refl)
 row-last k false d = inr (d .fails refl, refl)
 
 -- and a first part of the table
-orElse-some : (m n k : ℕ) → m ≡ k → k ≢ 0 → m orElse n ≡ k
-orElse-some zero n k e z = absurd (z (sym e))
-orElse-some (suc m) n k e z = e
+some-refusal : (m k : ℕ) → m ≡ k → k ≢ 0 → 0 < m
+some-refusal zero k e z = absurd (z (sym e))
+some-refusal (suc m) k e z = omega arith
 
 part-then : (rs qs : List Row) (m n : ℕ) → Different rs → First rs m → (All Fails rs → First qs n) → First (rs ++ qs) (m orElse n)
 unfolding First Different
 part-then [] qs m n d f g = rw f (g tt)
-part-then (r ∷ rs) qs m n d (inl (h, e)) g = inl (h, orElse-some m n (r .number) e (d .0))
+part-then (r ∷ rs) qs m n d (inl (h, e)) g = inl (h, orElse-some m n (some-refusal m (r .number) e (d .0)) ∙ e)
 part-then (r ∷ rs) qs m n d (inr (h, f)) g = inr (h, part-then rs qs m n (d .2) f (λ k. g (h, k)))
 
 -- what remains of a table behind rows that fail
@@ -197,6 +197,15 @@ pub answer-number : (n written functions : ℕ) → answerAt n written functions
 answer-number zero written functions = refl
 answer-number (suc n) written functions = refl
 
+module _ (L : Limits) where
+  pub updated-number : (n : ℕ) (fs : List Fun) → updateAnswer L n fs .number ≡ n
+  updated-number zero fs = refl
+  updated-number (suc n) fs = refl
+
+  pub checked-number : (n : ℕ) (es : List Entry) (fs : List Fun) → checkAnswer L n es fs .number ≡ n
+  checked-number zero es fs = refl
+  checked-number (suc n) es fs = refl
+
 pub blank-first : (text output : List ℕ) → First (blankTable text output) (blankCall text output .answer .number)
 unfolding blankCall
 blank-first text output = rw (answer-number (blankNumber text output)) (blank-number text output)
@@ -247,9 +256,9 @@ rest-changed (r ∷ rs) ps qs n g (inl (h, e)) = inl (h, e)
 rest-changed (r ∷ rs) ps qs n g (inr (h, f)) = inr (h, rest-changed rs ps qs n (λ k. g (h, k)) f)
 
 -- the export's own table of sums has an entry for each file of a laid-out tree
-own-suffices : (L : Limits) (tree : List ℕ) → All Fails (treeRows tree) → FewSums (ownTable gate L) tree → ⊥
-own-suffices L tree h few =
-    let size : length (ownTable gate L) ≡ 1024 = length-replicate {A = FileSum} 1024 (record { file = 0; sum = 0 }) in
+own-suffices : (tree : List ℕ) → All Fails (treeRows tree) → FewSums emptySums tree → ⊥
+own-suffices tree h few =
+    let size : length emptySums ≡ 1024 = length-replicate 1024 noSum in
     h .1 .0 (λ l. omega (arith, files-count tree, l .count-small))
 
 module _ (L : Limits) where
@@ -262,10 +271,10 @@ module _ (L : Limits) where
 
   -- and report's number does not depend on the table
   pub report-any-sums : (tree work records : List ℕ) (sums : List FileSum) (output : List ℕ) → length (sources tree) ≤ length sums
-      → reportNumber gate L tree work records (ownTable gate L) output ≡ reportNumber gate L tree work records sums output
+      → reportNumber gate L tree work records emptySums output ≡ reportNumber gate L tree work records sums output
   report-any-sums tree work records sums output enough =
       first-unique _ _ _
-      (report-without-six tree work records (ownTable gate L) output (own-suffices L tree))
+      (report-without-six tree work records emptySums output (own-suffices tree))
       (report-without-six tree work records sums output (λ h few. omega arith))
 
 pub exported-blank-first : (text output : List ℕ) → First (blankTable text output) (exportedBlank text output .number)
@@ -291,7 +300,7 @@ module _ (L : Limits) where
       → First (exportedReportTable L tree work records output counts) (exportedReport gate L tree work records output counts .number)
   unfolding exportedReport exportedAt
   exported-report-first tree work records output counts =
-      export-first 8 tree work counts _ _ (report-without-six L tree work records (ownTable gate L) output (own-suffices L tree))
+      export-first 8 tree work counts _ _ (report-without-six L tree work records emptySums output (own-suffices tree))
 
 -- THE NUMBERS OF EVERY TABLE ARE DIFFERENT
 
@@ -351,19 +360,6 @@ module _ (tree work records : List ℕ) (a : Accepted gate tree) (w : length tre
       (with-rest tree h (omega arith, (enough records tree few r, tt)))
 
   module _ (L : Limits) where
-    pub check-succeeds : (baseline output : List ℕ) → length baseline ≤ 33554432 → length (listing L (entries baseline) (functionsOf gate tree)) ≤ length output
-        → checkCall gate L tree baseline work records output .answer .number ≡ 0
-    check-succeeds baseline output b o =
-        let (h, few) = accepted-spelled tree .0 a in
-        exactly-zero _ (check-different L tree baseline work records output) _ (check-first L tree baseline work records output) .1
-        (with-rest tree h (omega arith, (omega arith, (enough records tree few r, (omega arith, tt)))))
-
-    pub update-succeeds : (output : List ℕ) → length (baselineText L (functionsOf gate tree)) ≤ length output → updateCall gate L tree work records output .answer .number ≡ 0
-    update-succeeds output o =
-        let (h, few) = accepted-spelled tree .0 a in
-        exactly-zero _ (update-different L tree work records output) _ (update-first L tree work records output) .1
-        (with-rest tree h (omega arith, (enough records tree few r, (omega arith, tt))))
-
     pub report-succeeds : (sums : List FileSum) (output : List ℕ) → length (sources tree) ≤ length sums → length (reportOf gate L tree) ≤ length output
         → reportCall gate L tree work records sums output .answer .number ≡ 0
     report-succeeds sums output s o =

@@ -9,18 +9,20 @@ use Rattle.source_rules.specs.Blank.{blanked}
 use Rattle.source_rules.specs.BlankLaws.{blanked-length}
 use Rattle.source_rules.specs.TextScan.{TextFun, functions}
 use Rattle.source_rules.specs.TextScanLaws.{Fine, functions-fine}
+use Rattle.gate_rules.specs.ConditionLaws.{paths-good}
 use Rattle.gate_rules.specs.Functions.{Fun}
 use Rattle.gate_rules.specs.Gate.{fileOf, funOf, functionsOfFile, functionsOfFiles, gate}
 use Rattle.gate_rules.specs.Scan.{functionsOf}
+use Rattle.gate_rules.specs.Table.{PathFine}
 use Rattle.gate_rules.specs.Tree.{Source, sources}
-use Rattle.gate_rules.specs.TreeLaws.{GoodPath, Placed, SoundTree, paths-good, sources-placed, texts-fit}
+use Rattle.gate_rules.specs.TreeLaws.{InTree, SoundTree, sources-placed, texts-fit}
 
-module _ (tree : List ℕ) (P : Fun → Type 0) (each : (s : Source) → Placed tree s → GoodPath (s .path) → (f : TextFun) → Fine (blanked (s .text)) f → P (funOf (s .path) f)) where
-  in-file : (s : Source) → Placed tree s → GoodPath (s .path) → (fs : List TextFun) → All (Fine (blanked (s .text))) fs → All P (map (funOf (s .path)) fs)
+module _ (tree : List ℕ) (P : Fun → Type 0) (each : (s : Source) → InTree tree s → PathFine (s .path) → (f : TextFun) → Fine (blanked (s .text)) f → P (funOf (s .path) f)) where
+  in-file : (s : Source) → InTree tree s → PathFine (s .path) → (fs : List TextFun) → All (Fine (blanked (s .text))) fs → All P (map (funOf (s .path)) fs)
   in-file s p g [] h = tt
   in-file s p g (f ∷ fs) h = (each s p g f (h .0), in-file s p g fs (h .1))
 
-  in-files : (ss : List Source) → All (Placed tree) ss → All (λ s. GoodPath (s .path)) ss → All P (functionsOfFiles (map fileOf ss))
+  in-files : (ss : List Source) → All (InTree tree) ss → All (λ s. PathFine (s .path)) ss → All P (functionsOfFiles (map fileOf ss))
   unfolding functionsOfFiles functionsOfFile fileOf
   in-files [] p g = tt
   in-files (s ∷ ss) p g =

@@ -19,9 +19,10 @@ use Rattle.gate_rules.specs.RecordsLaws.{records-count}
 use Rattle.gate_rules.specs.Report.{Weight, sumsFrom, weightOf, weights}
 use Rattle.gate_rules.specs.ReportCall.{sumsOf}
 use Rattle.gate_rules.specs.Scan.{Accepted, functionsOf}
+use Rattle.gate_rules.specs.Table.{PathFine}
 use Rattle.gate_rules.specs.Tree.{Source, sources, treeRefusal}
 use Rattle.gate_rules.specs.TreeFunctions.{all-of-tree, total-of-files, total-of-tree}
-use Rattle.gate_rules.specs.TreeLaws.{GoodPath, Placed, sources-placed, unrefused}
+use Rattle.gate_rules.specs.TreeLaws.{InTree, sources-placed, unrefused}
 
 -- ---- one function
 
@@ -34,7 +35,7 @@ pub record Sized (f : Fun) : Type 0 where
   pub nesting-u32 : f .nesting < 4294967296
   pub params-u32 : f .params < 4294967296
 
-sized : (tree : List ℕ) → length tree ≤ 16777216 → (s : Source) → Placed tree s → GoodPath (s .path) → (f : TextFun) → Fine (blanked (s .text)) f → Sized (funOf (s .path) f)
+sized : (tree : List ℕ) → length tree ≤ 16777216 → (s : Source) → InTree tree s → PathFine (s .path) → (f : TextFun) → Fine (blanked (s .text)) f → Sized (funOf (s .path) f)
 unfolding funOf
 sized tree short s p g f h =
     let size = blanked-length (s .text) in
@@ -93,11 +94,11 @@ records-few tree a = omega (arith, tree-records tree (a .unrefused), a .few)
 -- ---- the sums of the files
 
 module _ (tree : List ℕ) where
-  file-branches : (s : Source) → Placed tree s → weightOf functionsOfFiles (fileOf s) .sum ≤ length tree
+  file-branches : (s : Source) → InTree tree s → weightOf functionsOfFiles (fileOf s) .sum ≤ length tree
   unfolding weightOf
   file-branches s p = omega (arith, total-of-files (λ f. f .cyclomatic) branches-of (s ∷ []), p .text-inside)
 
-  from-sums : (number : ℕ) (ss : List Source) → All (Placed tree) ss → All (λ x. x .sum ≤ length tree) (sumsFrom functionsOfFiles number (map fileOf ss))
+  from-sums : (number : ℕ) (ss : List Source) → All (InTree tree) ss → All (λ x. x .sum ≤ length tree) (sumsFrom functionsOfFiles number (map fileOf ss))
   unfolding sumsFrom
   from-sums number [] p = tt
   from-sums number (s ∷ ss) p = (file-branches s (p .0), from-sums _ ss (p .1))
@@ -106,11 +107,11 @@ module _ (tree : List ℕ) where
   abbrev pub Weighed : Weight → Type 0
   Weighed w = (w .sum ≤ length tree) × (length (w .path) ≤ 1024)
 
-  weighed : (s : Source) → Placed tree s → Weighed (weightOf functionsOfFiles (fileOf s))
+  weighed : (s : Source) → InTree tree s → Weighed (weightOf functionsOfFiles (fileOf s))
   unfolding weightOf fileOf
   weighed s p = (file-branches s p, p .path-short)
 
-  from-weights : (ss : List Source) → All (Placed tree) ss → All Weighed (weights functionsOfFiles (map fileOf ss))
+  from-weights : (ss : List Source) → All (InTree tree) ss → All Weighed (weights functionsOfFiles (map fileOf ss))
   unfolding weights
   from-weights [] p = tt
   from-weights (s ∷ ss) p =

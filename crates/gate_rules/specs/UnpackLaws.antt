@@ -1,20 +1,22 @@
 -- The other direction: a tree that is laid out is its own files, packed, and a tree that is not refused has files that can be packed.
 use Prim.Native.Nat.{ℕ, zero, suc, _+_, _*_, _≤_, _<_}
 use mathlib.Core.Path.{_≡_, refl, ap, ap₂, sym, _∙_, subst}
-use mathlib.Core.Bool.{true, _&&_}
+use mathlib.Core.Bool.{true}
 use mathlib.Core.List.{List, [], _∷_, _++_, map, append-nil}
 use native.Mathlib.Omega.{arith}
 use borrow.Author.Tests.{eqb-true}
-use lib.ListN.{length, take, drop, length-drop, length-take, take-append-drop}
+use lib.ListN.{drop, length, length-drop, length-map, length-take, take, take-append-drop}
 use lib.Seq.{drop-drop, drop-length, take-add}
 use Rattle.text_rules.specs.Bytes.{All, joined}
-use Rattle.text_rules.specs.BytesLaws.{All-map, and-left, and-right}
+use Rattle.text_rules.specs.BytesLaws.{All-map, All-mapped, and-left, and-right}
 use Rattle.text_rules.specs.U32.{u32At, u32Bytes}
 use Rattle.text_rules.specs.U32Laws.{u32-back, u32-drop}
 use Rattle.text_rules.specs.Utf8.{isUtf8}
-use Rattle.gate_rules.specs.Pack.{InOrder, InputFile, Packable, inputOf, packed, packedEntry, packedTable, packedTexts, placeAfter}
-use Rattle.gate_rules.specs.Tree.{Source, entriesFit, entryFits, fileCount, isLaidOut, isPath, pathBefore, pathLength, pathsRise, sourceAt, sources, sourcesFrom, textLength, textOffset, textsGood, treeRefusal}
-use Rattle.gate_rules.specs.TreeLaws.{Fits, Placed, entry-fits, laid-out, sources-placed, unrefused}
+use Rattle.gate_rules.specs.ConditionLaws.{entries-count, entry-fits, laid-out, paths-each, paths-up, texts-spelled, up-rest}
+use Rattle.gate_rules.specs.Pack.{InputFile, Packable, inputOf, packed, packedEntry, packedTable, packedTexts, placeAfter}
+use Rattle.gate_rules.specs.Table.{EntryLaid}
+use Rattle.gate_rules.specs.Tree.{PathsUp, Source, entriesFit, entryFits, fileCount, isLaidOut, isPath, pathLength, sourceAt, sources, sourcesFrom, textLength, textOffset, treeRefusal}
+use Rattle.gate_rules.specs.TreeLaws.{InTree, sources-placed, unrefused}
 
 abbrev Byte : ℕ → Type 0
 Byte b = b < 256
@@ -31,8 +33,8 @@ four-back s n k h l e =
     ap u32Bytes (e ∙ sym (u32-drop k s 0 ∙ ap (u32At s) z)) ∙ u32-back (drop k s) (drop-bytes k s h) (simp length-drop (omega arith))
 
 -- the next part of a list in front of what follows it
-part-then : (n m : ℕ) (s : List ℕ) (k : ℕ) → take n (drop k s) ++ take m (drop (k + n) s) ≡ take (n + m) (drop k s)
-part-then n m s k = ap (λ r. take n (drop k s) ++ take m r) (sym (drop-drop n k s)) ∙ sym (take-add n m (drop k s))
+parts-taken : (n m : ℕ) (s : List ℕ) (k : ℕ) → take n (drop k s) ++ take m (drop (k + n) s) ≡ take (n + m) (drop k s)
+parts-taken n m s k = ap (λ r. take n (drop k s) ++ take m r) (sym (drop-drop n k s)) ∙ sym (take-add n m (drop k s))
 
 -- sixteen bytes: four numbers
 sixteen-back : (s : List ℕ) (a b c d k : ℕ) → All Byte s → k + 16 ≤ length s → a ≡ u32At s k → b ≡ u32At s (k + 4) → c ≡ u32At s (k + 8) → d ≡ u32At s (k + 12)
@@ -46,10 +48,10 @@ sixteen-back s a b c d k h l p q r t =
     let four₃ = four-back s d (k + 12) h (omega arith) t in
     let last : u32Bytes d ++ [] ≡ take 4 (drop (k + 12) s) = append-nil (u32Bytes d) ∙ four₃ in
     let third : u32Bytes c ++ (u32Bytes d ++ []) ≡ take 8 (drop (k + 8) s) =
-    ap₂ _++_ four₂ (last ∙ ap (λ x. take 4 (drop x s)) (sym e₂)) ∙ part-then 4 4 s (k + 8) in
+    ap₂ _++_ four₂ (last ∙ ap (λ x. take 4 (drop x s)) (sym e₂)) ∙ parts-taken 4 4 s (k + 8) in
     let second : u32Bytes b ++ (u32Bytes c ++ (u32Bytes d ++ [])) ≡ take 12 (drop (k + 4) s) =
-    ap₂ _++_ four₁ (third ∙ ap (λ x. take 8 (drop x s)) (sym e₁)) ∙ part-then 4 8 s (k + 4) in
-    ap₂ _++_ four₀ second ∙ part-then 4 12 s k
+    ap₂ _++_ four₁ (third ∙ ap (λ x. take 8 (drop x s)) (sym e₁)) ∙ parts-taken 4 8 s (k + 4) in
+    ap₂ _++_ four₀ second ∙ parts-taken 4 12 s k
 
 module _ (tree : List ℕ) (bytes : All (λ b. b < 256) tree) where
   -- the files of entries that fit
@@ -63,11 +65,11 @@ module _ (tree : List ℕ) (bytes : All (λ b. b < 256) tree) where
     path-there : f .path ≡ take (pathLength tree entry) (drop running tree)
     text-there : f .text ≡ take (textLength tree entry) (drop (textOffset tree entry) tree)
 
-  whole : (number entry running : ℕ) → Fits tree entry running → Whole entry running (inputOf (sourceAt tree number entry))
+  whole : (number entry running : ℕ) → EntryLaid tree entry running → Whole entry running (inputOf (sourceAt tree number entry))
   unfolding sourceAt
   whole number entry running f =
-      let a = f .path-at in
-      let b = f .text-at in
+      let a = f .path-offset in
+      let b = f .text-offset in
       let c = f .text-inside in
       record {
         path-size = simp (length-take, length-drop) (omega arith);
@@ -85,7 +87,7 @@ module _ (tree : List ℕ) (bytes : All (λ b. b < 256) tree) where
       let to = textOffset tree entry in
       let rest = texts-back left (suc number) (entry + 16) (to + textLength tree entry) (and-right (entryFits tree entry running) _ e) in
       let text = ap₂ _++_ (w .text-there) (rest ∙ sym (drop-drop (textLength tree entry) to tree)) ∙ take-append-drop (textLength tree entry) (drop to tree) in
-      ap₂ _++_ (w .path-there) (text ∙ ap (λ n. drop n tree) (f .text-at) ∙ sym (drop-drop (pathLength tree entry) running tree)) ∙ take-append-drop (pathLength tree entry) (drop running tree)
+      ap₂ _++_ (w .path-there) (text ∙ ap (λ n. drop n tree) (f .text-offset) ∙ sym (drop-drop (pathLength tree entry) running tree)) ∙ take-append-drop (pathLength tree entry) (drop running tree)
 
   table-back : (left number entry running : ℕ) → entry + 16 * left ≤ length tree → entriesFit tree left entry running ≡ true
       → packedTable running (filesFrom left number entry) ≡ take (16 * left) (drop entry tree)
@@ -94,8 +96,8 @@ module _ (tree : List ℕ) (bytes : All (λ b. b < 256) tree) where
   table-back (suc left) number entry running l e =
       let f = entry-fits tree entry running (and-left _ _ e) in
       let w = whole number entry running f in
-      let a = f .path-at in
-      let b = f .text-at in
+      let a = f .path-offset in
+      let b = f .text-offset in
       let p = w .path-size in
       let t = w .text-size in
       let file = inputOf (sourceAt tree number entry) in
@@ -104,12 +106,11 @@ module _ (tree : List ℕ) (bytes : All (λ b. b < 256) tree) where
       let sizes : 16 + 16 * left ≡ 16 * suc left = omega arith in
       let head = sixteen-back tree running (length (file .path)) (running + length (file .path)) (length (file .text)) entry bytes (omega arith) (sym a) p (omega arith) t in
       let rest = ap (λ r. packedTable r (filesFrom left (suc number) (entry + 16))) next ∙ table-back left (suc number) (entry + 16) to (omega arith) (and-right (entryFits tree entry running) _ e) in
-      ap₂ _++_ head rest ∙ part-then 16 (16 * left) tree entry ∙ ap (λ n. take n (drop entry tree)) sizes
+      ap₂ _++_ head rest ∙ parts-taken 16 (16 * left) tree entry ∙ ap (λ n. take n (drop entry tree)) sizes
 
-  files-count : (left number entry : ℕ) → length (filesFrom left number entry) ≡ left
-  unfolding filesFrom sourcesFrom
-  files-count zero number entry = refl
-  files-count (suc left) number entry = ap suc (files-count left (suc number) (entry + 16))
+  inputs-count : (left number entry : ℕ) → length (filesFrom left number entry) ≡ left
+  unfolding filesFrom
+  inputs-count left number entry = length-map (sourcesFrom tree left number entry) inputOf ∙ entries-count tree left number entry
 
   -- a tree that is laid out is its own files, packed
   pub packed-back : isLaidOut tree ≡ true → packed (map inputOf (sources tree)) ≡ tree
@@ -118,7 +119,7 @@ module _ (tree : List ℕ) (bytes : All (λ b. b < 256) tree) where
       let n = fileCount tree in
       let l = laid-out tree e in
       let table = l .table in
-      let count = files-count n 0 4 in
+      let count = inputs-count n 0 4 in
       let head : u32Bytes n ≡ take 4 tree = four-back tree n 0 bytes (omega arith) refl in
       ap (λ k. u32Bytes k ++ (packedTable (4 + 16 * k) (map inputOf (sources tree)) ++ packedTexts (map inputOf (sources tree)))) count
       ∙ ap₂ _++_ head (ap₂ _++_ (table-back n 0 4 (4 + 16 * n) table (l .entries)) (texts-back n 0 4 (4 + 16 * n) (l .entries) ∙ sym (drop-drop (16 * n) 4 tree)) ∙ take-append-drop (16 * n) (drop 4 tree))
@@ -126,30 +127,10 @@ module _ (tree : List ℕ) (bytes : All (λ b. b < 256) tree) where
 
 -- ---- the files of a tree that is not refused can be packed
 
-All-inputs : (P : InputFile → Type 0) (ss : List Source) → All (λ s. P (inputOf s)) ss → All P (map inputOf ss)
-All-inputs P [] h = tt
-All-inputs P (s ∷ ss) h = (h .0, All-inputs P ss (h .1))
-
-paths-fine : (last : List ℕ) (ss : List Source) → pathsRise last ss ≡ true → All (λ s. isPath (s .path) ≡ true) ss
-unfolding pathsRise
-paths-fine last [] e = tt
-paths-fine last (s ∷ ss) e = (
-  and-left _ (pathBefore last (s .path)) (and-left _ (pathsRise (s .path) ss) e),
-  paths-fine (s .path) ss (and-right (isPath (s .path) && pathBefore last (s .path)) _ e),
-)
-
-paths-order : (last : List ℕ) (ss : List Source) → pathsRise last ss ≡ true → InOrder (map inputOf ss)
-unfolding pathsRise
-paths-order last [] e = tt
-paths-order last (s ∷ []) e = tt
-paths-order last (s ∷ t ∷ ss) e =
-    let rest = and-right (isPath (s .path) && pathBefore last (s .path)) _ e in
-    (and-right (isPath (t .path)) _ (and-left _ (pathsRise (t .path) ss) rest), paths-order (s .path) (t ∷ ss) rest)
-
-texts-fine : (ss : List Source) → textsGood ss ≡ true → All (λ s. isUtf8 (s .text) ≡ true) ss
-unfolding textsGood
-texts-fine [] e = tt
-texts-fine (s ∷ ss) e = (and-left _ (textsGood ss) e, texts-fine ss (and-right (isUtf8 (s .text)) _ e))
+-- the paths of the files to pack are those of the files
+same-paths : (ss : List Source) → map (λ f. f .path) (map inputOf ss) ≡ map (λ s. s .path) ss
+same-paths [] = refl
+same-paths (s ∷ ss) = ap (λ ps. s .path ∷ ps) (same-paths ss)
 
 pub accepted-packable : (tree : List ℕ) → All (λ b. b < 256) tree → treeRefusal tree ≡ 0 → Packable (map inputOf (sources tree))
 unfolding sources filesFrom
@@ -158,11 +139,11 @@ accepted-packable tree bytes e =
     let ss = sources tree in
     let placed = sources-placed tree t in
     record {
-      few = omega (arith, laid-out tree (t .laid) .few, files-count tree bytes (fileCount tree) 0 4);
+      few = omega (arith, laid-out tree (t .laid) .few, inputs-count tree bytes (fileCount tree) 0 4);
       whole = subst (λ r. length r ≤ 16777216) (sym (packed-back tree bytes (t .laid))) (t .short);
-      path-some = All-inputs (λ f. 1 ≤ length (f .path)) ss (All-map (Placed tree) (λ s. 1 ≤ length (s .path)) (λ s p. p .path-some) ss placed);
-      path-short = All-inputs (λ f. length (f .path) ≤ 1024) ss (All-map (Placed tree) (λ s. length (s .path) ≤ 1024) (λ s p. p .path-short) ss placed);
-      path-good = All-inputs (λ f. isPath (f .path) ≡ true) ss (paths-fine [] ss (t .paths));
-      path-order = paths-order [] ss (t .paths);
-      text-good = All-inputs (λ f. isUtf8 (f .text) ≡ true) ss (texts-fine ss (t .texts));
+      path-some = All-mapped (λ f. 1 ≤ length (f .path)) inputOf ss (All-map (InTree tree) (λ s. 1 ≤ length (s .path)) (λ s p. p .path-some) ss placed);
+      path-short = All-mapped (λ f. length (f .path) ≤ 1024) inputOf ss (All-map (InTree tree) (λ s. length (s .path) ≤ 1024) (λ s p. p .path-short) ss placed);
+      path-good = All-mapped (λ f. isPath (f .path) ≡ true) inputOf ss (paths-each [] ss (t .paths));
+      path-order = subst PathsUp (sym (same-paths ss)) (up-rest [] (map (λ s. s .path) ss) (paths-up [] ss (t .paths)));
+      text-good = All-mapped (λ f. isUtf8 (f .text) ≡ true) inputOf ss (texts-spelled ss .0 (t .texts));
     }

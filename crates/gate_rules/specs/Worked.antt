@@ -40,24 +40,24 @@ abbrev pub emptyTree : List ℕ
 emptyTree = packed []
 
 -- a buffer that suffices
-unfoldable pub lent : List ℕ
-lent = replicate 600 7
+unfoldable pub ample : List ℕ
+ample = replicate 600 7
 
 unfoldable pub begun : Updated
-begun = updateCall gate gateLimits firstTree lent lent lent
+begun = updateCall gate gateLimits firstTree ample ample ample
 
 unfoldable pub calls : List Call
 calls =
-    check worseTree lent lent lent  -- fails: cyclomatic 3 was 2
-    ∷ check deeperTree lent lent []  -- refused: no output
-    ∷ check deeperTree lent lent lent  -- passes
-    ∷ update deeperTree [] lent lent  -- refused: no work
-    ∷ check firstTree lent lent lent  -- passes: the first baseline still stands
-    ∷ update deeperTree lent lent lent  -- the baseline now has cyclomatic 1
-    ∷ check firstTree lent lent lent  -- fails: cyclomatic 2 was 1
-    ∷ check [] lent lent lent  -- refused: no tree
-    ∷ check deeperTree lent lent lent  -- passes
-    ∷ check emptyTree lent lent lent  -- passes, with a stale entry
+    check worseTree ample ample ample  -- fails: cyclomatic 3 was 2
+    ∷ check deeperTree ample ample []  -- refused: no output
+    ∷ check deeperTree ample ample ample  -- passes
+    ∷ update deeperTree [] ample ample  -- refused: no work
+    ∷ check firstTree ample ample ample  -- passes: the first baseline still stands
+    ∷ update deeperTree ample ample ample  -- the baseline now has cyclomatic 1
+    ∷ check firstTree ample ample ample  -- fails: cyclomatic 2 was 1
+    ∷ check [] ample ample ample  -- refused: no tree
+    ∷ check deeperTree ample ample ample  -- passes
+    ∷ check emptyTree ample ample ample  -- passes, with a stale entry
     ∷ []
 
 pub record Worked : Type 0 where
@@ -66,7 +66,7 @@ pub record Worked : Type 0 where
   pub passes : passing gate gateLimits (start begun) calls ≡ deeperTree ∷ firstTree ∷ deeperTree ∷ emptyTree ∷ []
 
 pub worked : Worked
-unfolding everything begun calls lent
+unfolding everything begun calls ample
 worked =
     record {
       starts = refl;
@@ -90,7 +90,7 @@ deeper-over = refl
 pub goes-back : Before gate gateLimits firstTree (ascii "a.rs") (ascii "g") 1 1
 unfolding begun
 goes-back =
-    never-worse-gate gateLimits firstTree lent lent lent (worked .starts) calls (worked .a-history) deeperTree
+    never-worse-gate gateLimits firstTree ample ample ample (worked .starts) calls (worked .a-history) deeperTree
     (subst (λ trees. deeperTree ∈ trees) (sym (worked .passes)) (List·Memᴰ·tail (List·Memᴰ·tail (List·Memᴰ·head refl))))
     deeper (subst (λ fs. deeper ∈ fs) (sym deeper-functions) (List·Memᴰ·head refl)) deeper-over
 

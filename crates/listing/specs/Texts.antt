@@ -27,14 +27,14 @@ pub located-length : (path : List ℕ) (line : ℕ) (name : List ℕ) → length
 located-length path line name = joined-length (path ∷ ascii ":" ∷ decimal line ∷ ascii " " ∷ name ∷ []) ∙ (omega arith)
 
 -- how many regressions there are
-abbrev pub counted : ℕ → List ℕ
-counted n = joined (ascii "complexity: " ∷ decimal n ∷ ascii " regressions\n" ∷ [])
+abbrev pub regressionCount : ℕ → List ℕ
+regressionCount n = joined (ascii "complexity: " ∷ decimal n ∷ ascii " regressions\n" ∷ [])
 
-abbrev pub countedLength : ℕ → ℕ
-countedLength n = 25 + length (decimal n)
+abbrev pub regressionCountLength : ℕ → ℕ
+regressionCountLength n = 25 + length (decimal n)
 
-pub counted-length : (n : ℕ) → length (counted n) ≡ countedLength n
-counted-length n = joined-length (ascii "complexity: " ∷ decimal n ∷ ascii " regressions\n" ∷ []) ∙ (omega arith)
+pub regression-count-length : (n : ℕ) → length (regressionCount n) ≡ regressionCountLength n
+regression-count-length n = joined-length (ascii "complexity: " ∷ decimal n ∷ ascii " regressions\n" ∷ []) ∙ (omega arith)
 
 pub justified-length : (width : ℕ) (text : List ℕ) → length (justified width text) ≡ max width (length text)
 unfolding justified

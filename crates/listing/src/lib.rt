@@ -9,7 +9,7 @@ ghost use Rattle.text_rules.specs.Classes.{space, tab};
 ghost use Rattle.text_rules.specs.Decimal.{decimal};
 ghost use Rattle.gate_rules.specs.Check.{spaced};
 ghost use Rattle.gate_rules.specs.Report.{justified};
-ghost use Rattle.listing.specs.Texts.{counted, countedLength, located, locatedLength};
+ghost use Rattle.listing.specs.Texts.{located, locatedLength, regressionCount, regressionCountLength};
 
 // The bytes of a text.
 pub fn put_text(out: &mut [u8], at: usize, text: &[u8]) -> usize
@@ -143,8 +143,8 @@ pub fn put_location(out: &mut [u8], at: usize, path: &[u8], line: u32, name: &[u
 
 // The first line of a verdict with regressions.
 pub fn put_counted(out: &mut [u8], at: usize, n: u64) -> usize
-    requires { ⌜ at + countedLength n ≤ length (now out) ⌝ }
-    ensures { λ r. ⌜ (r ≡ at + countedLength n) × (now (out .exit) ≡ putAt at (counted n) (now (out .entry))) ⌝ }
+    requires { ⌜ at + regressionCountLength n ≤ length (now out) ⌝ }
+    ensures { λ r. ⌜ (r ≡ at + regressionCountLength n) × (now (out .exit) ≡ putAt at (regressionCount n) (now (out .entry))) ⌝ }
 {
     let number = put_text(out, at, b"complexity: ");
     let words = put_number(out, number, n);

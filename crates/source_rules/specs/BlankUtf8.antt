@@ -20,10 +20,10 @@ use Rattle.text_rules.specs.Utf8Cuts.{Cut, High, ascii-first, cut-after, cut-ne
 use Rattle.source_rules.specs.Blank.{blankFrom, blanked, blockLength, blockToken, charToken, escapeToken, hashes, lineToken, put, rawLength, rawLetters, rawToken, stringLength, stringToken, tokenLength}
 
 -- a token of n bytes at the head is fine: it is none, or begins at an ASCII byte and ends at a place to cut
-abbrev Fine : List ℕ → ℕ → Type 0
-Fine s n = (n ≡ 0) ⊎ ((getD s 0 0 < 128) × Cut n s)
+abbrev CutsWell : List ℕ → ℕ → Type 0
+CutsWell s n = (n ≡ 0) ⊎ ((getD s 0 0 < 128) × Cut n s)
 
-fine-or : (s : List ℕ) (m n : ℕ) → Fine s m → Fine s n → Fine s (m orElse n)
+fine-or : (s : List ℕ) (m n : ℕ) → CutsWell s m → CutsWell s n → CutsWell s (m orElse n)
 fine-or s zero n h k = k
 fine-or s (suc m) n h k = h
 
@@ -106,7 +106,7 @@ opens-first : (x y : ℕ) (s : List ℕ) → opens x y s ≡ true → getD s 0 0
 unfolding opens
 opens-first x y s e = eqb-true (getD s 0 0) x (and-left _ _ e)
 
-line-fine : (s : List ℕ) → Fine s (lineToken s)
+line-fine : (s : List ℕ) → CutsWell s (lineToken s)
 unfolding lineToken
 line-fine s =
     elim (whether (opens slash slash s)) [
@@ -114,7 +114,7 @@ line-fine s =
       | inr e ↦ rw (e, lineToken) (inl refl)
     ]
 
-block-fine : (s : List ℕ) → Fine s (blockToken s)
+block-fine : (s : List ℕ) → CutsWell s (blockToken s)
 unfolding blockToken
 block-fine s =
     elim (whether (opens slash star s)) [
@@ -122,7 +122,7 @@ block-fine s =
       | inr e ↦ rw (e, blockToken) (inl refl)
     ]
 
-string-fine : (s : List ℕ) → Fine s (stringToken s)
+string-fine : (s : List ℕ) → CutsWell s (stringToken s)
 unfolding stringToken
 string-fine s =
     elim (whether (eqb (getD s 0 0) quote)) [
@@ -142,7 +142,7 @@ letters-first s h =
           ]
     ]
 
-raw-fine : (prev : ℕ) (s : List ℕ) → Fine s (rawToken prev s)
+raw-fine : (prev : ℕ) (s : List ℕ) → CutsWell s (rawToken prev s)
 unfolding rawToken
 raw-fine prev s = pick (ltb 0 (rawLetters s) && _) (λ e. letters-first s (ltb-true 0 (rawLetters s) (and-left _ _ e)))
   where
@@ -152,7 +152,7 @@ raw-fine prev s = pick (ltb 0 (rawLetters s) && _) (λ e. letters-first s (ltb-t
     n : ℕ
     n = hashes (drop k s)
 
-    pick : (t : Bool) → (t ≡ true → getD s 0 0 < 128) → Fine s (elim t [ true ↦ k + n + 1 + rawLength n (drop (k + n + 1) s) | false ↦ 0 ])
+    pick : (t : Bool) → (t ≡ true → getD s 0 0 < 128) → CutsWell s (elim t [ true ↦ k + n + 1 + rawLength n (drop (k + n + 1) s) | false ↦ 0 ])
     pick true h = inr (h refl, cut-after (k + n + 1) (rawLength n (drop (k + n + 1) s)) s (raw-cut n (drop (k + n + 1) s)))
     pick false h = inl refl
 
@@ -166,7 +166,7 @@ before-at x (b ∷ s) h =
       | inr e ↦ let k : suc (bytesBefore x s) < suc (length s) = rw (e, run) at h in rw (e, run) (before-at x s (omega arith))
     ]
 
-escape-fine : (s : List ℕ) → getD s 0 0 < 128 → Fine s (escapeToken s)
+escape-fine : (s : List ℕ) → getD s 0 0 < 128 → CutsWell s (escapeToken s)
 unfolding escapeToken
 escape-fine s a = pick (ltb i (length w)) refl
   where
@@ -176,7 +176,7 @@ escape-fine s a = pick (ltb i (length w)) refl
     i : ℕ
     i = bytesBefore apostrophe w
 
-    pick : (t : Bool) → ltb i (length w) ≡ t → Fine s (elim t [ true ↦ 3 + i | false ↦ 0 ])
+    pick : (t : Bool) → ltb i (length w) ≡ t → CutsWell s (elim t [ true ↦ 3 + i | false ↦ 0 ])
     pick false e = inl refl
     pick true e =
         let h : i < length w = ltb-true i (length w) e in
@@ -186,7 +186,7 @@ escape-fine s a = pick (ltb i (length w)) refl
         let mark : getD w i 0 ≡ apostrophe = before-at apostrophe w h in
         inr (a, behind (3 + i) s (2 + i) (omega arith) (omega (arith, length-drop 2 s)) (omega arith))
 
-char-fine : (s : List ℕ) → Fine s (charToken s)
+char-fine : (s : List ℕ) → CutsWell s (charToken s)
 unfolding charToken
 char-fine s =
     elim (whether (eqb (getD s 0 0) apostrophe)) [
@@ -203,7 +203,7 @@ char-fine s =
           ]
     ]
 
-token-fine : (prev : ℕ) (s : List ℕ) → Fine s (tokenLength prev s)
+token-fine : (prev : ℕ) (s : List ℕ) → CutsWell s (tokenLength prev s)
 unfolding tokenLength
 token-fine prev s =
     fine-or s (lineToken s) _ (line-fine s)
@@ -227,17 +227,17 @@ left zero awaited = awaited
 left (suc k) awaited = []
 
 -- one byte: as it stands, or blanked, where a token of m bytes begins
-step : (b : ℕ) (r : List ℕ) → ((k : ℕ) (awaited : List Range) → Good k awaited r → wellFormedAfter (left k awaited) (blankFrom k b r) ≡ true)
-    → (awaited : List Range) (m : ℕ) → Fine (b ∷ r) m → High awaited → wellFormedAfter awaited (b ∷ r) ≡ true
+token-step : (b : ℕ) (r : List ℕ) → ((k : ℕ) (awaited : List Range) → Good k awaited r → wellFormedAfter (left k awaited) (blankFrom k b r) ≡ true)
+    → (awaited : List Range) (m : ℕ) → CutsWell (b ∷ r) m → High awaited → wellFormedAfter awaited (b ∷ r) ≡ true
     → wellFormedAfter awaited (put m b ∷ blankFrom (pred m) b r) ≡ true
 unfolding wellFormedAfter put isUtf8
-step b r go [] zero f h w = follow-map b r (blankFrom 0 b r) (λ rs high v. go 0 rs (high, v)) w
-step b r go (a ∷ rs) zero f h w = rw (and-left (within b a) (wellFormedAfter rs r) w) (go 0 rs (h .1, and-right (within b a) _ w))
-step b r go awaited (suc k) (inl z) h w = absurd (omega arith)
-step b r go (a ∷ rs) (suc k) (inr f) h w = absurd (none-awaited a b (h .0) (f .0) (and-left _ (wellFormedAfter rs r) w))
-step b r go [] (suc zero) (inr f) h w =
+token-step b r go [] zero f h w = follow-map b r (blankFrom 0 b r) (λ rs high v. go 0 rs (high, v)) w
+token-step b r go (a ∷ rs) zero f h w = rw (and-left (within b a) (wellFormedAfter rs r) w) (go 0 rs (h .1, and-right (within b a) _ w))
+token-step b r go awaited (suc k) (inl z) h w = absurd (omega arith)
+token-step b r go (a ∷ rs) (suc k) (inr f) h w = absurd (none-awaited a b (h .0) (f .0) (and-left _ (wellFormedAfter rs r) w))
+token-step b r go [] (suc zero) (inr f) h w =
     ascii-first (put 1 b) (blankFrom 0 b r) (put-ascii 0 b) ∙ go 0 [] (tt, cut-utf8 1 (b ∷ r) (f .1) w)
-step b r go [] (suc (suc k)) (inr f) h w =
+token-step b r go [] (suc (suc k)) (inr f) h w =
     ascii-first (put (suc (suc k)) b) (blankFrom (suc k) b r) (put-ascii (suc k) b) ∙ go (suc k) [] (cut-utf8 (suc (suc k)) (b ∷ r) (f .1) w)
 
 from-utf8 : (k prev : ℕ) (awaited : List Range) (s : List ℕ) → Good k awaited s → wellFormedAfter (left k awaited) (blankFrom k prev s) ≡ true
@@ -245,7 +245,7 @@ unfolding blankFrom isUtf8 wellFormedAfter
 from-utf8 zero prev awaited [] g = g .1
 from-utf8 (suc k) prev awaited [] g = refl
 from-utf8 zero prev awaited (b ∷ r) g =
-    step b r (λ k aw h. from-utf8 k b aw r h) awaited (tokenLength prev (b ∷ r)) (token-fine prev (b ∷ r)) (g .0) (g .1)
+    token-step b r (λ k aw h. from-utf8 k b aw r h) awaited (tokenLength prev (b ∷ r)) (token-fine prev (b ∷ r)) (g .0) (g .1)
 from-utf8 (suc zero) prev awaited (b ∷ r) g = ascii-first (put 1 b) (blankFrom 0 b r) (put-ascii 0 b) ∙ from-utf8 zero b [] r (tt, g)
 from-utf8 (suc (suc k)) prev awaited (b ∷ r) g =
     ascii-first (put (suc (suc k)) b) (blankFrom (suc k) b r) (put-ascii (suc k) b) ∙ from-utf8 (suc k) b [] r g

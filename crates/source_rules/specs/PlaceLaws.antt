@@ -149,9 +149,9 @@ function-moved n from to s =
     λ end. all-moved n from to opened closed body end
 
 -- the first x from a place on is the first from every later place up to it; where there is none, there is none later
-later : (s : List ℕ) (x n from : ℕ) (o : Option ℕ) → find x from (drop from s) ≡ o → ((m : ℕ) → o ≡ some m → from + n ≤ m) → find x (from + n) (drop (from + n) s) ≡ o
-later s x zero from o e k = rw (add-zero from) e
-later s x (suc n) from o e k =
+later-place : (s : List ℕ) (x n from : ℕ) (o : Option ℕ) → find x from (drop from s) ≡ o → ((m : ℕ) → o ≡ some m → from + n ≤ m) → find x (from + n) (drop (from + n) s) ≡ o
+later-place s x zero from o e k = rw (add-zero from) e
+later-place s x (suc n) from o e k =
     elim (whether (ltb from (length s))) [
       | inl t ↦
           let h : from < length s = ltb-true from (length s) t in
@@ -160,7 +160,7 @@ later s x (suc n) from o e k =
             | inr u ↦
                 let f : find x from (drop from s) ≡ find x (from + 1) (drop (from + 1) s) = find-step s from h x ∙ rw u in
                 let q : from + 1 + n ≡ from + suc n = omega arith in
-                subst (λ i. find x i (drop i s) ≡ o) q (later s x n (from + 1) o (sym f ∙ e) (λ m g. omega (arith, k m g)))
+                subst (λ i. find x i (drop i s) ≡ o) q (later-place s x n (from + 1) o (sym f ∙ e) (λ m g. omega (arith, k m g)))
           ]
       | inr t ↦
           let h : length s ≤ from = ltb-false from (length s) t in
@@ -170,7 +170,7 @@ later s x (suc n) from o e k =
 pub find-later : (s : List ℕ) (x from to : ℕ) (o : Option ℕ) → find x from (drop from s) ≡ o → from ≤ to → ((m : ℕ) → o ≡ some m → to ≤ m) → find x to (drop to s) ≡ o
 find-later s x from to o e h k =
     let q : from + (to - from) ≡ to = omega arith in
-    subst (λ i. find x i (drop i s) ≡ o) q (later s x (to - from) from o e (λ m g. omega (arith, k m g)))
+    subst (λ i. find x i (drop i s) ≡ o) q (later-place s x (to - from) from o e (λ m g. omega (arith, k m g)))
 
 -- a place that is told stands in the text
 module _ (s : List ℕ) (at m : ℕ) where

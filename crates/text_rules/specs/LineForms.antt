@@ -21,9 +21,9 @@ before-mark : (x b : ℕ) (s : List ℕ) → eqb b x ≡ true → bytesBefore x 
 unfolding run
 before-mark x b s t = rw (t, run)
 
-before-other : (x b : ℕ) (s : List ℕ) → eqb b x ≡ false → bytesBefore x (b ∷ s) ≡ suc (bytesBefore x s)
+before-unmarked : (x b : ℕ) (s : List ℕ) → eqb b x ≡ false → bytesBefore x (b ∷ s) ≡ suc (bytesBefore x s)
 unfolding run
-before-other x b s t = rw (t, run)
+before-unmarked x b s t = rw (t, run)
 
 -- the first piece ends at the first mark
 split-at : (x : ℕ) (s : List ℕ) (n : ℕ) → n ≡ bytesBefore x s → n < length s → split x s ≡ take n s ∷ split x (drop (suc n) s)
@@ -32,12 +32,12 @@ split-at x [] n e h = absurd (omega arith)
 split-at x (b ∷ s) zero e h =
     elim (whether (eqb b x)) [
       | inl t ↦ rw t
-      | inr t ↦ absurd (omega (arith, before-other x b s t))
+      | inr t ↦ absurd (omega (arith, before-unmarked x b s t))
     ]
 split-at x (b ∷ s) (suc n) e h =
     elim (whether (eqb b x)) [
       | inl t ↦ absurd (omega (arith, before-mark x b s t))
-      | inr t ↦ rw (t, split-at x s n (omega (arith, before-other x b s t)) (omega arith))
+      | inr t ↦ rw (t, split-at x s n (omega (arith, before-unmarked x b s t)) (omega arith))
     ]
 
 -- a text in which no mark comes is one piece
@@ -47,7 +47,7 @@ split-whole x [] h = refl
 split-whole x (b ∷ s) h =
     elim (whether (eqb b x)) [
       | inl t ↦ absurd (omega (arith, before-mark x b s t))
-      | inr t ↦ rw (t, split-whole x s (omega (arith, before-other x b s t)))
+      | inr t ↦ rw (t, split-whole x s (omega (arith, before-unmarked x b s t)))
     ]
 
 mark-at : (x : ℕ) (s : List ℕ) (n : ℕ) → n ≡ bytesBefore x s → n < length s → getD s n 0 ≡ x
@@ -55,12 +55,12 @@ mark-at x [] n e h = absurd (omega arith)
 mark-at x (b ∷ s) zero e h =
     elim (whether (eqb b x)) [
       | inl t ↦ eqb-true b x t
-      | inr t ↦ absurd (omega (arith, before-other x b s t))
+      | inr t ↦ absurd (omega (arith, before-unmarked x b s t))
     ]
 mark-at x (b ∷ s) (suc n) e h =
     elim (whether (eqb b x)) [
       | inl t ↦ absurd (omega (arith, before-mark x b s t))
-      | inr t ↦ mark-at x s n (omega (arith, before-other x b s t)) (omega arith)
+      | inr t ↦ mark-at x s n (omega (arith, before-unmarked x b s t)) (omega arith)
     ]
 
 -- the piece that begins at `from` ends at `end`
@@ -96,7 +96,7 @@ module _ (s : List ℕ) (from end : ℕ) (e : end ≡ from + bytesBefore 10 (dro
   line-last h = rw (piece-last 10 s from end e h)
 
 -- the last byte of a line decides what it loses
-cons-if : (t : Bool) (b : ℕ) (x y : List ℕ) → b ∷ (if t then x else y) ≡ (if t then b ∷ x else b ∷ y)
+pub cons-if : (t : Bool) (b : ℕ) (x y : List ℕ) → b ∷ (if t then x else y) ≡ (if t then b ∷ x else b ∷ y)
 cons-if true b x y = refl
 cons-if false b x y = refl
 
@@ -130,11 +130,11 @@ module _ (s : List ℕ) (from end : ℕ) where
     trim-other q = trim-part ∙ rw (ne-eqb (getD s (end - 1) 0) 13 q)
 
 -- two parts with the byte between them
-joined : (s : List ℕ) (m k n : ℕ) → n ≡ suc (m + k) → m < length s → take m s ++ getD s m 0 ∷ take k (drop (suc m) s) ≡ take n s
-joined [] m k n e h = absurd (omega arith)
-joined (b ∷ s) m k zero e h = absurd (omega arith)
-joined (b ∷ s) zero k (suc n) e h = let q : k ≡ n = omega arith in ap (λ i. b ∷ take i s) q
-joined (b ∷ s) (suc m) k (suc n) e h = ap (λ r. b ∷ r) (joined s m k n (omega arith) (omega arith))
+parts-joined : (s : List ℕ) (m k n : ℕ) → n ≡ suc (m + k) → m < length s → take m s ++ getD s m 0 ∷ take k (drop (suc m) s) ≡ take n s
+parts-joined [] m k n e h = absurd (omega arith)
+parts-joined (b ∷ s) m k zero e h = absurd (omega arith)
+parts-joined (b ∷ s) zero k (suc n) e h = let q : k ≡ n = omega arith in ap (λ i. b ∷ take i s) q
+parts-joined (b ∷ s) (suc m) k (suc n) e h = ap (λ r. b ∷ r) (parts-joined s m k n (omega arith) (omega arith))
 
 pub part-joined : (s : List ℕ) (m n : ℕ) → m < n → n ≤ length s → take m s ++ getD s m 0 ∷ part (m + 1) n s ≡ take n s
-part-joined s m n h k = rw (add-one m) (joined s m (n - suc m) n (omega arith) (omega arith))
+part-joined s m n h k = rw (add-one m) (parts-joined s m (n - suc m) n (omega arith) (omega arith))

@@ -14,14 +14,14 @@ use Rattle.text_rules.specs.BytesLaws.{and-right, whether}
 use Rattle.text_rules.specs.Search.{_andThen_, find, opens, part, run}
 
 -- a place from `at` on, inside a list that begins there
-abbrev pub Inside : ℕ → ℕ → List ℕ → Type 0
-Inside at m s = (at ≤ m) × (m < at + length s)
+abbrev pub PlaceIn : ℕ → ℕ → List ℕ → Type 0
+PlaceIn at m s = (at ≤ m) × (m < at + length s)
 
 pub andThen-some : {A : Type 0} (o : Option ℕ) (k : ℕ → Option A) (a : A) → (o andThen k) ≡ some a → (n : ℕ) × (o ≡ some n) × (k n ≡ some a)
 andThen-some none k a e = let z : _≡_ {A = ℕ} 0 1 = cc in absurd (omega arith)
 andThen-some (some n) k a e = (n, refl, e)
 
-pub find-inside : (x at : ℕ) (s : List ℕ) (m : ℕ) → find x at s ≡ some m → Inside at m s
+pub find-inside : (x at : ℕ) (s : List ℕ) (m : ℕ) → find x at s ≡ some m → PlaceIn at m s
 unfolding find
 find-inside x at [] m e = let z : _≡_ {A = ℕ} 0 1 = cc in absurd (omega arith)
 find-inside x at (b ∷ s) m e =

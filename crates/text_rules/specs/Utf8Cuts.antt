@@ -23,10 +23,10 @@ HighFollow illFormed = Unit {0}
 HighFollow (by rs) = High rs
 
 -- a row of the table, and those that come after it
-row : (t : Bool) (rs : List Range) (y : Follow) → High rs → HighFollow y → HighFollow (if t then by rs else y)
+high-row : (t : Bool) (rs : List Range) (y : Follow) → High rs → HighFollow y → HighFollow (if t then by rs else y)
 unfolding HighFollow
-row true rs y h k = h
-row false rs y h k = k
+high-row true rs y h k = h
+high-row false rs y h k = k
 
 no-row : HighFollow illFormed
 unfolding HighFollow
@@ -36,15 +36,15 @@ no-row = tt
 follow-high : (b : ℕ) → HighFollow (follow b)
 unfolding follow
 follow-high b =
-    row (within b (0x00 to 0x7F)) [] _ tt
-    (row (within b (0xC2 to 0xDF)) (0x80 to 0xBF ∷ []) _ (lit≤ tt, tt)
-    (row (within b (0xE0 to 0xE0)) (0xA0 to 0xBF ∷ 0x80 to 0xBF ∷ []) _ (lit≤ tt, (lit≤ tt, tt))
-    (row (within b (0xE1 to 0xEC)) (0x80 to 0xBF ∷ 0x80 to 0xBF ∷ []) _ (lit≤ tt, (lit≤ tt, tt))
-    (row (within b (0xED to 0xED)) (0x80 to 0x9F ∷ 0x80 to 0xBF ∷ []) _ (lit≤ tt, (lit≤ tt, tt))
-    (row (within b (0xEE to 0xEF)) (0x80 to 0xBF ∷ 0x80 to 0xBF ∷ []) _ (lit≤ tt, (lit≤ tt, tt))
-    (row (within b (0xF0 to 0xF0)) (0x90 to 0xBF ∷ 0x80 to 0xBF ∷ 0x80 to 0xBF ∷ []) _ (lit≤ tt, (lit≤ tt, (lit≤ tt, tt)))
-    (row (within b (0xF1 to 0xF3)) (0x80 to 0xBF ∷ 0x80 to 0xBF ∷ 0x80 to 0xBF ∷ []) _ (lit≤ tt, (lit≤ tt, (lit≤ tt, tt)))
-    (row (within b (0xF4 to 0xF4)) (0x80 to 0x8F ∷ 0x80 to 0xBF ∷ 0x80 to 0xBF ∷ []) illFormed (lit≤ tt, (lit≤ tt, (lit≤ tt, tt))) no-row))))))))
+    high-row (within b (0x00 to 0x7F)) [] _ tt
+    (high-row (within b (0xC2 to 0xDF)) (0x80 to 0xBF ∷ []) _ (lit≤ tt, tt)
+    (high-row (within b (0xE0 to 0xE0)) (0xA0 to 0xBF ∷ 0x80 to 0xBF ∷ []) _ (lit≤ tt, (lit≤ tt, tt))
+    (high-row (within b (0xE1 to 0xEC)) (0x80 to 0xBF ∷ 0x80 to 0xBF ∷ []) _ (lit≤ tt, (lit≤ tt, tt))
+    (high-row (within b (0xED to 0xED)) (0x80 to 0x9F ∷ 0x80 to 0xBF ∷ []) _ (lit≤ tt, (lit≤ tt, tt))
+    (high-row (within b (0xEE to 0xEF)) (0x80 to 0xBF ∷ 0x80 to 0xBF ∷ []) _ (lit≤ tt, (lit≤ tt, tt))
+    (high-row (within b (0xF0 to 0xF0)) (0x90 to 0xBF ∷ 0x80 to 0xBF ∷ 0x80 to 0xBF ∷ []) _ (lit≤ tt, (lit≤ tt, (lit≤ tt, tt)))
+    (high-row (within b (0xF1 to 0xF3)) (0x80 to 0xBF ∷ 0x80 to 0xBF ∷ 0x80 to 0xBF ∷ []) _ (lit≤ tt, (lit≤ tt, (lit≤ tt, tt)))
+    (high-row (within b (0xF4 to 0xF4)) (0x80 to 0x8F ∷ 0x80 to 0xBF ∷ 0x80 to 0xBF ∷ []) illFormed (lit≤ tt, (lit≤ tt, (lit≤ tt, tt))) no-row))))))))
 
 -- the text is empty, or its first byte is ASCII
 abbrev pub AsciiHead : List ℕ → Type 0

@@ -6,7 +6,7 @@ use borrow.Author.Needs.{needs}
 use Rattle.text_rules.specs.Bytes.{ascii}
 use Rattle.text_rules.specs.Decimal.{decimal}
 use Rattle.text_rules.specs.WriterLaws.{Puts, puts-all, puts-none, puts-then}
-use Rattle.listing.specs.Texts.{counted-length}
+use Rattle.listing.specs.Texts.{regression-count-length}
 use Rattle.listing.proofs.put_counted.Statement.{statement}
 use Rattle.listing.proofs.put_counted.Tie as tie
 
@@ -18,7 +18,7 @@ returns c =
     let a = first .before .before .before .before .args in
     let parts : Puts (a .at) (now (a .out)) (ascii "complexity: " ∷ decimal (a .n) ∷ ascii " regressions\n" ∷ []) _ _ =
     puts-then (first .put-text .ensures) (puts-then (second .put-number .ensures) (puts-then (third .put-text2 .ensures) puts-none)) in
-    puts-all parts (counted-length (a .n)) (omega arith)
+    puts-all parts (regression-count-length (a .n)) (omega arith)
 
 pub put-counted-spec : {M : Type 1} → statement M
 put-counted-spec =

@@ -1,0 +1,273 @@
+// The call check: the functions of a tree against what the baseline accepts, and a listing of what got worse and of what is stale.
+// A baseline that is too long is refused before the tree is scanned. How long the listing is, is known before any of it is written.
+ghost use mathlib.Core.Path.{_≡_};
+ghost use mathlib.Core.Bool.{true};
+ghost use mathlib.Core.List.{map};
+ghost use Prim.Native.Nat.{_+_, _≤_};
+ghost use lib.Dec.{ltb};
+ghost use lib.ListN.{length, take};
+ghost use Rattle.text_rules.specs.Bytes.{_orElse_, _when_, putAt};
+ghost use Rattle.text_rules.specs.Utf8.{isUtf8};
+ghost use Rattle.gate_rules.specs.Baseline.{entries, entriesOfLines};
+ghost use Rattle.gate_rules.specs.Calls.{checkCall};
+ghost use Rattle.gate_rules.specs.Check.{listed, spaced, staleText, verdictText};
+ghost use Rattle.gate_rules.specs.Functions.{gateLimits};
+ghost use Rattle.gate_rules.specs.Gate.{gate};
+ghost use Rattle.gate_rules.specs.Scan.{functionsOf};
+ghost use Rattle.gate_rules.specs.Tree.{treeRefusal};
+ghost use Rattle.functions.specs.Shown.{limitsOf};
+ghost use Rattle.stale.specs.Taken.{AllStand, staleIn};
+ghost use Rattle.gate_check.specs.Checks.{Checks, Refuses, Tells};
+ghost use Rattle.gate_check.specs.Texts.{someStale, staleLength, verdictLength, worseIn};
+use functions::Limits;
+
+// The largest baseline, in bytes.
+const MAX_BASELINE: usize = 33554432;
+
+// The number is 0 on success, and else says what was refused.
+pub struct CheckAnswer {
+    pub number: u32,
+    pub written: u32,
+    pub functions: u32,
+    pub regressed: u32,
+    pub stale: u32,
+}
+
+// A refusal's counts are 0.
+fn refusal(number: u32) -> CheckAnswer
+    ensures { λ r. ⌜ Refuses r number ⌝ }
+{
+    CheckAnswer {
+        number,
+        written: 0,
+        functions: 0,
+        regressed: 0,
+        stale: 0,
+    }
+}
+
+// ---- the stale entries
+
+// The bytes of the text about them. Where there are none, there is no text.
+fn stale_length(count: usize, bytes: usize) -> usize
+    requires { ⌜ bytes ≤ 1000000000000 ⌝ }
+    ensures { λ r. ⌜ (r ≡ staleLength count bytes) × (r ≤ 1000000000100) ⌝ }
+{
+    if count == 0 {
+        return 0;
+    }
+    listing::digits(count as u64) + 35 + bytes + 26
+}
+
+// The text, where there are some.
+fn put_stale_text(
+    tree: &[u8],
+    lent: &[u8],
+    n: usize,
+    lines: &[u8],
+    count: usize,
+    output: &mut [u8],
+    at: usize,
+) -> usize
+    requires { ⌜
+        AllStand (now tree) (now lent) n
+        × (count ≡ length (staleIn (now tree) (now lines)))
+        × (1 ≤ count)
+        × (at + someStale count (length (listed (map spaced (staleIn (now tree) (now lines))))) ≤ length (now output))
+        ⌝ }
+    ensures { λ r. ⌜
+        (r ≡ at + someStale count (length (listed (map spaced (staleIn (now (tree .entry)) (now (lines .entry)))))))
+        × (now (output .exit) ≡ putAt at (staleText (staleIn (now (tree .entry)) (now (lines .entry)))) (now (output .entry)))
+        ⌝ }
+{
+    let words = listing::put_number(output, at, count as u64);
+    let keys = listing::put_text(output, words, b" baseline entries no longer exist:\n");
+    let end = stale::put_all(tree, lent, n, lines, count, output, keys);
+    listing::put_text(output, end, b"run --update to drop them\n")
+}
+
+// The text about the stale entries, of which there are `count`.
+fn put_stale(
+    tree: &[u8],
+    lent: &[u8],
+    n: usize,
+    lines: &[u8],
+    count: usize,
+    output: &mut [u8],
+    at: usize,
+) -> usize
+    requires { ⌜
+        AllStand (now tree) (now lent) n
+        × (count ≡ length (staleIn (now tree) (now lines)))
+        × (at + length (staleText (staleIn (now tree) (now lines))) ≤ length (now output))
+        ⌝ }
+    ensures { λ r. ⌜
+        (r ≡ at + length (staleText (staleIn (now (tree .entry)) (now (lines .entry)))))
+        × (now (output .exit) ≡ putAt at (staleText (staleIn (now (tree .entry)) (now (lines .entry)))) (now (output .entry)))
+        ⌝ }
+{
+    if count == 0 {
+        return at;
+    }
+    put_stale_text(tree, lent, n, lines, count, output, at)
+}
+
+// ---- the verdict
+
+// The bytes of the verdict and of the regression lines.
+fn verdict_length(count: usize, bytes: usize) -> usize
+    requires { ⌜ bytes ≤ 1000000000000 ⌝ }
+    ensures { λ r. ⌜ (r ≡ verdictLength count bytes) × (r ≤ 1000000000100) ⌝ }
+{
+    if count == 0 {
+        return 70;
+    }
+    25 + listing::digits(count as u64) + bytes
+}
+
+// The verdict and the regression lines, of which there are `count`.
+fn put_verdict(
+    limits: Limits,
+    tree: &[u8],
+    lent: &[u8],
+    n: usize,
+    lines: &[u8],
+    count: usize,
+    output: &mut [u8],
+    at: usize,
+) -> usize
+    requires { ⌜
+        AllStand (now tree) (now lent) n
+        × (count ≡ length (worseIn (limitsOf limits) (now tree) (now lines)))
+        × (at + length (verdictText (worseIn (limitsOf limits) (now tree) (now lines))) ≤ length (now output))
+        ⌝ }
+    ensures { λ r. ⌜
+        (r ≡ at + length (verdictText (worseIn (limitsOf limits) (now (tree .entry)) (now (lines .entry)))))
+        × (now (output .exit) ≡ putAt at (verdictText (worseIn (limitsOf limits) (now (tree .entry)) (now (lines .entry)))) (now (output .entry)))
+        ⌝ }
+{
+    if count == 0 {
+        return listing::put_text(
+            output,
+            at,
+            b"complexity: no function got worse, nothing new is over the thresholds\n",
+        );
+    }
+    let first = listing::put_counted(output, at, count as u64);
+    regressions::put_all(tree, lent, n, lines, limits, output, first)
+}
+
+// ---- the call
+
+// What check says of a scanned tree: 9, or the listing and its counts.
+fn told(
+    limits: Limits,
+    tree: &[u8],
+    lent: &[u8],
+    n: usize,
+    lines: &[u8],
+    output: &mut [u8],
+) -> CheckAnswer
+    requires { ⌜ AllStand (now tree) (now lent) n × (isUtf8 (now lines) ≡ true) × (length (now lines) ≤ 33554432) ⌝ }
+    ensures { λ r. ⌜
+        Tells r (limitsOf limits) (entriesOfLines (now (lines .entry))) (functionsOf gate (now (tree .entry))) (now (output .entry)) (now (output .exit))
+        ⌝ }
+{
+    let gone = stale::measure(tree, lent, n, lines);
+    let worse = regressions::measure(tree, lent, n, lines, limits);
+    let bytes = stale_length(gone.count, gone.bytes) + verdict_length(worse.count, worse.bytes);
+    if output.len() < bytes {
+        return refusal(9);
+    }
+    let next = put_stale(tree, lent, n, lines, gone.count, output, 0);
+    let end = put_verdict(limits, tree, lent, n, lines, worse.count, output, next);
+    CheckAnswer {
+        number: 0,
+        written: end as u32,
+        functions: n as u32,
+        regressed: worse.count as u32,
+        stale: gone.count as u32,
+    }
+}
+
+// How much of the baseline is read: one that is not UTF-8 has no entries.
+fn read_length(baseline: &[u8]) -> usize
+    ensures { λ r. ⌜
+        (r ≤ length (now (baseline .entry)))
+        × (isUtf8 (take r (now (baseline .entry))) ≡ true)
+        × (entriesOfLines (take r (now (baseline .entry))) ≡ entries (now (baseline .entry)))
+        ⌝ }
+{
+    if baseline::readable(baseline) {
+        return baseline.len();
+    }
+    0
+}
+
+// The number of a call whose baseline is too long: 1 to 5 come before 7.
+fn long_number(tree: &[u8], room: usize) -> u32
+    ensures { λ r. ⌜ (r ≡ treeRefusal (now (tree .entry)) orElse 5 when ltb room (length (now (tree .entry))) orElse 7) × (1 ≤ r) × (r ≤ 7) ⌝ }
+{
+    let refused = tree::tree_refusal(tree);
+    if refused != 0 {
+        return refused;
+    }
+    if room < tree.len() {
+        return 5;
+    }
+    7
+}
+
+// The call check with any limits: the refusals 1 to 5, 7, 8 and 9; the tree's texts blanked into work, its records, and the listing.
+pub fn check_with(
+    limits: Limits,
+    tree: &[u8],
+    baseline: &[u8],
+    work: &mut [u8],
+    lent: &mut [u8],
+    output: &mut [u8],
+) -> CheckAnswer
+    ensures { λ r. ⌜
+        Checks r
+        (checkCall gate (limitsOf limits) (now (tree .entry)) (now (baseline .entry)) (now (work .entry)) (now (lent .entry)) (now (output .entry)))
+        (now (work .exit))
+        (now (lent .exit))
+        (now (output .exit))
+        ⌝ }
+{
+    if MAX_BASELINE < baseline.len() {
+        return refusal(long_number(tree, work.len()));
+    }
+    let scan = gate_scan::scan(tree, work, lent);
+    if scan.number != 0 {
+        return refusal(scan.number);
+    }
+    let end = read_length(baseline);
+    told(
+        limits,
+        tree,
+        lent,
+        scan.functions as usize,
+        &baseline[..end],
+        output,
+    )
+}
+
+// The call check.
+pub fn check(
+    tree: &[u8],
+    baseline: &[u8],
+    work: &mut [u8],
+    lent: &mut [u8],
+    output: &mut [u8],
+) -> CheckAnswer
+    ensures { λ r. ⌜
+        Checks r
+        (checkCall gate gateLimits (now (tree .entry)) (now (baseline .entry)) (now (work .entry)) (now (lent .entry)) (now (output .entry)))
+        (now (work .exit))
+        (now (lent .exit))
+        (now (output .exit))
+        ⌝ }
+{
+    check_with(functions::gate_limits(), tree, baseline, work, lent, output)
+}
