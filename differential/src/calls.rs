@@ -179,10 +179,10 @@ fn said(name: Name, tree: &Tree, baseline: &[u8]) -> (Vec<u8>, Vec<usize>) {
     }
 }
 
-/// A call on a tree.
-pub fn compare(name: Name, tree: &Tree, baseline: &[u8], slack: Slack) -> Result<usize, String> {
+/// A call on a tree: its number and, on success, its counts.
+pub fn compare(name: Name, tree: &Tree, baseline: &[u8], slack: Slack) -> Result<(usize, Vec<usize>), String> {
     if name == Name::Blank {
-        return compare_blank(&tree.bytes, slack.output);
+        return Ok((compare_blank(&tree.bytes, slack.output)?, Vec::new()));
     }
     let (listing, numbers) = said(name, tree, baseline);
     let input = Input::new(&tree.bytes);
@@ -218,5 +218,5 @@ pub fn compare(name: Name, tree: &Tree, baseline: &[u8], slack: Slack) -> Result
     work.differs("work", &expected.work, 0x11)?;
     input.kept("tree", &tree.bytes)?;
     base.kept("baseline", baseline)?;
-    Ok(number)
+    Ok((number, if number == 0 { numbers } else { Vec::new() }))
 }

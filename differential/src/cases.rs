@@ -30,7 +30,7 @@ impl Kind {
     pub fn of(case: usize) -> Kind {
         match case {
             // six of them take a second each
-            k if k % 250_000 < 6_000 && k % 1_000 == 500 => Kind::Huge,
+            k if k % 250_000 < 6_000 && k % 1_000 == 595 => Kind::Huge,
             k if k % 2_000 == 1_999 => Kind::Limits,
             k => match k % 100 {
                 0..=29 => Kind::Short,

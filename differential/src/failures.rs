@@ -34,7 +34,7 @@ impl Failure {
     fn run(&self) -> Result<usize, String> {
         match self.name {
             Name::Blank => compare_blank(&self.input, self.slack.output),
-            name => compare(name, &Tree::read(self.input.clone()), &self.baseline, self.slack),
+            name => compare(name, &Tree::read(self.input.clone()), &self.baseline, self.slack).map(|answer| answer.0),
         }
     }
 

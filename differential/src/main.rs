@@ -33,8 +33,25 @@ struct Tally {
     cases: BTreeMap<Kind, usize>,
     calls: BTreeMap<(Name, usize), usize>,
     functions: usize,
+    regressed: usize,
+    stale: usize,
+    recorded: usize,
     with_function: usize,
     below: usize,
+}
+
+impl Tally {
+    /// What the listings of successful calls hold.
+    fn found(&mut self, name: Name, counts: &[usize]) {
+        match (name, counts) {
+            (Name::Check, &[_, _, regressed, stale]) => {
+                self.regressed += usize::from(regressed > 0);
+                self.stale += usize::from(stale > 0);
+            }
+            (Name::Update, &[_, _, recorded]) => self.recorded += usize::from(recorded > 0),
+            _ => {}
+        }
+    }
 }
 
 /// All calls on one subject.
@@ -69,7 +86,10 @@ fn run(kind: Kind, subject: &Subject, r: &mut Random, tally: &mut Tally, failure
         }
         let room = slack(r, tree.bytes.len());
         match compare(name, &tree, baseline, room) {
-            Ok(number) => *tally.calls.entry((name, number)).or_default() += 1,
+            Ok((number, counts)) => {
+                *tally.calls.entry((name, number)).or_default() += 1;
+                tally.found(name, &counts);
+            }
             Err(what) => failures.push(Failure::new(name, &tree.bytes, baseline, room, what)),
         }
     }
@@ -93,6 +113,12 @@ fn show(tally: &Tally, started: Instant, differences: usize) {
         tally.functions,
         tally.with_function,
         tally.below
+    );
+    std::println!(
+        "  listings with regressions {}, with stale entries {}, with recorded functions {}",
+        tally.regressed,
+        tally.stale,
+        tally.recorded
     );
     std::println!("differences: {differences}");
 }
