@@ -18,6 +18,7 @@ use Rattle.gate_rules.specs.Check.{listing, regressions, stale}
 use Rattle.gate_rules.specs.Functions.{Fun, Limits}
 use Rattle.gate_rules.specs.Gate.{gate}
 use Rattle.gate_rules.specs.Scan.{functionsOf}
+use Rattle.gate_rules.specs.TableLaws.{answer-number}
 use Rattle.gate_rules.specs.Tree.{treeRefusal}
 use Rattle.answers.specs.declared.Answer.{Answer}
 use Rattle.functions.specs.Shown.{Stand}
@@ -92,10 +93,6 @@ or-else : (a b c : ℕ) → (a orElse b) orElse c ≡ a orElse (b orElse c)
 or-else zero b c = refl
 or-else (suc a) b c = refl
 
-answered : (n written functions : ℕ) → answerAt n written functions .number ≡ n
-answered zero written functions = refl
-answered (suc n) written functions = refl
-
 module _ (L : Limits) (tree baseline work records′ output : List ℕ) where
   -- what the call answers and leaves at a number
   at : ℕ → Checked
@@ -164,7 +161,7 @@ module _ (L : Limits) (tree baseline work records′ output : List ℕ) where
     module _ (s : Answer) (w l : List ℕ) (scanned : Scans s (scanCall gate tree work records′) w l) where
       scan-number : s .number ≡ scanNumber gate tree work records′
       unfolding scanCall
-      scan-number = scanned .number-is ∙ answered (scanNumber gate tree work records′) 0 (length (functionsOf gate tree))
+      scan-number = scanned .number-is ∙ answer-number (scanNumber gate tree work records′) 0 (length (functionsOf gate tree))
 
       work-at : (n : ℕ) → scanNumber gate tree work records′ ≡ n → w ≡ workAfter gate n tree work
       unfolding scanCall

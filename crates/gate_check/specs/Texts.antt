@@ -12,7 +12,7 @@ use Rattle.gate_rules.specs.Check.{listed, listing, regressions, spaced, stale,
 use Rattle.gate_rules.specs.Functions.{Fun, Limits}
 use Rattle.gate_rules.specs.Gate.{gate}
 use Rattle.gate_rules.specs.Scan.{functionsOf}
-use Rattle.listing.specs.Texts.{regressionCount, regression-count-length}
+use Rattle.listing.specs.Texts.{regression-count-length, regressionCount}
 
 -- the regression lines of a tree against a baseline's lines
 abbrev pub worseIn : Limits → (tree lines : List ℕ) → List (List ℕ)

@@ -1,3 +1,4 @@
 -- The laws that the functions cite.
+mod Ahead
 mod Sizes
 mod Written

@@ -1,11 +1,9 @@
 -- What a loop that writes one row after another has written: the rows that are left, put behind, make the whole.
 use Prim.Native.Nat.{ℕ, zero, suc, _+_, _≤_, _<_}
 use mathlib.Core.Path.{_≡_, refl, ap, ap₂, subst, sym, _∙_}
-use mathlib.Core.Logic.{inl, inr}
 use mathlib.Core.Bool.{true}
 use mathlib.Core.List.{List, [], _∷_, _++_, map, append-assoc}
 use mathlib.Core.Option.{Option, none, some, Option·none-ne-some, Option·some-injective}
-use native.Mathlib.Nat.{eq-or-lt-of-le}
 use native.Mathlib.Numerals.{add-one}
 use native.Mathlib.Omega.{arith}
 use lib.ListN.{length, take, drop, getD, drop-of-length-le, length-append, length-map}
@@ -68,7 +66,7 @@ module _ (L : Limits) (fs : List Fun) where
       }
 
   module _ (at : ℕ) (start : List ℕ) (done last end : ℕ) (out : List ℕ) (w : Written at start done last end out) (more : done < length (recorded L fs))
-      (r : ℕ) (most : r ≤ length fs) (c : Chosen fs L last (placedFrom 0 fs) r) where
+      (r : ℕ) (c : Chosen fs L last (placedFrom 0 fs) r) where
     inside : done < length ordered
     inside = omega (arith, ordered-count)
 
@@ -85,11 +83,11 @@ module _ (L : Limits) (fs : List Fun) where
         (subst (λ o. Best rowAhead (λ z. (over L (z .what) ≡ true) × After rowAhead o z) (placedFrom 0 fs) (choice fs r)) (w .behind) c)
         ∙ ap headOf left-split
 
-    pub next-there : r < length fs
-    next-there = elim (eq-or-lt-of-le most) [ inl e ↦ absurd (Option·none-ne-some _ (sym (choice-none fs r e) ∙ chosen-is)) | inr h ↦ h ]
+    pub next-there : r ≡ length fs → ⊥
+    next-there e = Option·none-ne-some _ (sym (choice-none fs r e) ∙ chosen-is)
 
     here : rowAt fs r ≡ getD ordered done none-row
-    here = let h = next-there in Option·some-injective _ _ (sym (choice-some fs r (λ e. omega arith)) ∙ chosen-is)
+    here = Option·some-injective _ _ (sym (choice-some fs r next-there) ∙ chosen-is)
 
     left-next : leftRows done ≡ getD fs r noFun ∷ leftRows (done + 1)
     unfolding leftRows
@@ -98,16 +96,18 @@ module _ (L : Limits) (fs : List Fun) where
     rows-next : rows (leftRows done) ≡ lined (getD fs r noFun) ++ rows (leftRows (done + 1))
     rows-next = ap rows left-next ∙ rows-cons (getD fs r noFun) (leftRows (done + 1))
 
-    rows-size : length (rows (leftRows done)) ≡ linedLength (getD fs r noFun) + length (rows (leftRows (done + 1)))
-    rows-size = ap length rows-next ∙ length-append (lined (getD fs r noFun)) (rows (leftRows (done + 1))) ∙ ap (λ n. n + length (rows (leftRows (done + 1)))) (lined-length (getD fs r noFun))
+    module _ (f : Fun) (is : f ≡ getD fs r noFun) (room : at + length (rows (recorded L fs)) ≤ length start) where
+      rows-are : rows (leftRows done) ≡ lined f ++ rows (leftRows (done + 1))
+      rows-are = rows-next ∙ ap (λ g. lined g ++ rows (leftRows (done + 1))) (sym is)
 
-    module _ (room : at + length (rows (recorded L fs)) ≤ length start) where
-      pub next-fits : end + linedLength (getD fs r noFun) ≤ length out
+      rows-size : length (rows (leftRows done)) ≡ linedLength f + length (rows (leftRows (done + 1)))
+      rows-size = ap length rows-are ∙ length-append (lined f) (rows (leftRows (done + 1))) ∙ ap (λ n. n + length (rows (leftRows (done + 1)))) (lined-length f)
+
+      pub next-fits : end + linedLength f ≤ length out
       next-fits = omega (arith, room, w .place, w .kept, rows-size)
 
-      pub one-written : (end′ : ℕ) (out′ : List ℕ) → (end′ ≡ end + linedLength (getD fs r noFun)) × (out′ ≡ putAt end (lined (getD fs r noFun)) out) → Written at start (done + 1) r end′ out′
+      pub one-written : (end′ : ℕ) (out′ : List ℕ) → (end′ ≡ end + linedLength f) × (out′ ≡ putAt end (lined f) out) → Written at start (done + 1) r end′ out′
       one-written end′ out′ e =
-          let f : Fun = getD fs r noFun in
           let size = lined-length f in
           let next : end′ ≡ end + length (lined f) = e .0 ∙ ap (λ n. end + n) (sym size) in
           record {
@@ -116,7 +116,7 @@ module _ (L : Limits) (fs : List Fun) where
             place = omega (arith, e .0, rows-size, w .place);
             whole = ap₂ (λ n l. putAt n (rows (leftRows (done + 1))) l) next (e .1)
                 ∙ put-next end (lined f) (rows (leftRows (done + 1))) out (omega (arith, room, w .place, w .kept, rows-size))
-                ∙ ap (λ l. putAt end l out) (sym rows-next)
+                ∙ ap (λ l. putAt end l out) (sym rows-are)
                 ∙ w .whole;
           }
 

@@ -1,5 +1,5 @@
 -- The next row by its function's number, where the number of all functions stands for no row: what a loop that goes through the functions has chosen.
-use Prim.Native.Nat.{ℕ, _≤_, _<_}
+use Prim.Native.Nat.{ℕ, _<_}
 use mathlib.Core.Path.{_≡_, refl, ap, subst, sym, _∙_}
 use mathlib.Core.Logic.{_⊎_, inl, inr}
 use mathlib.Core.Bool.{Bool, true, false}
@@ -13,22 +13,32 @@ use Rattle.text_rules.specs.Bytes.{if_then_else_}
 use Rattle.text_rules.specs.BytesLaws.{true-false, whether}
 use Rattle.text_rules.specs.Selection.{Placed, ahead}
 use Rattle.gate_rules.specs.Functions.{Fun, Limits, over}
+use Rattle.gate_rules.specs.Gate.{gate}
 use Rattle.gate_rules.specs.RowOrders.{row-orders}
+use Rattle.gate_rules.specs.Scan.{functionsOf}
 use Rattle.gate_rules.specs.Update.{rowBefore}
-use Rattle.functions.specs.Shown.{noFun}
 use Rattle.order.specs.Best.{After, Best, best-better, best-first, best-unfit, best-worse}
-use Rattle.order.specs.Picks.{ahead-earlier, ahead-less, ahead-trans, behind-more, placed}
+use Rattle.order.specs.Picks.{ahead-earlier, ahead-less, ahead-trans, placed}
+use Rattle.functions.specs.Shown.{Lies, noFun, shown}
+use Rattle.gate_update.specs.declared.Row.{Row}
 
 -- a row is ahead: before in the order of the rows, and where neither is, the one that stands earlier in scan order
 abbrev pub rowAhead : Placed Fun → Placed Fun → Bool
 rowAhead = ahead rowBefore row-orders
 
--- what is true or false as the Boolean says
+-- the Boolean says whether it holds
 pub record Decides (P : Type 0) (b : Bool) : Type 0 where
   pub yes : b ≡ true → P
   pub no : b ≡ false → P → ⊥
 
+pub always : {P : Type 0} → P → Decides P true
+always p = record { yes = λ h. p; no = λ h. absurd (true-false true refl h) }
+
+pub never : {P : Type 0} → (P → ⊥) → Decides P false
+never n = record { yes = λ h. absurd (true-false false h refl); no = λ h. n }
+
 module _ (fs : List Fun) where
+  -- the row of a function, by its number
   abbrev pub rowAt : ℕ → Placed Fun
   rowAt k = placed noFun fs k
 
@@ -49,7 +59,7 @@ module _ (fs : List Fun) where
         ]
       ]
 
-  -- the row with a number
+  -- the row that a number stands for
   abbrev pub choice : ℕ → Option (Placed Fun)
   choice k = if eqb k (length fs) then none else some (rowAt k)
 
@@ -64,7 +74,7 @@ module _ (fs : List Fun) where
     abbrev pub Fit : Placed Fun → Type 0
     Fit z = (over L (z .what) ≡ true) × After rowAhead (choice last) z
 
-    -- of the functions seen the one with the number is the next row
+    -- among the functions seen, the one with the number is the next row
     abbrev pub Chosen : List (Placed Fun) → ℕ → Type 0
     Chosen seen best = Best rowAhead Fit seen (choice best)
 
@@ -103,24 +113,12 @@ module _ (fs : List Fun) where
             subst (Best rowAhead Fit (seen ++ rowAt k ∷ [])) (sym (choice-some best n))
             (best-worse rowAhead Fit seen (rowAt k) (rowAt best) (other-ahead k best a) (subst (Best rowAhead Fit seen) (choice-some best n) h))
 
--- how code decides
-pub always : {P : Type 0} → P → Decides P true
-always p = record { yes = λ h. p; no = λ h. absurd (true-false true refl h) }
+-- a row read back from the records: its function is the one with its number
+pub record Held (tree : List ℕ) (r : Row) : Type 0 where
+  pub inside : r .number < length (functionsOf gate tree)
+  pub shown-is : shown tree (r .function) ≡ getD (functionsOf gate tree) (r .number) noFun
+  pub lies : Lies tree (r .function)
 
-pub never : {P : Type 0} → (P → ⊥) → Decides P false
-never n = record { yes = λ h. absurd (true-false false h refl); no = λ h. n }
-
-module _ (fs : List Fun) (j k : ℕ) where
-  pub ahead-before : rowBefore (getD fs j noFun) (getD fs k noFun) ≡ true → rowAhead (rowAt fs j) (rowAt fs k) ≡ true
-  ahead-before e = ahead-less rowBefore row-orders (rowAt fs j) (rowAt fs k) e
-
-  pub ahead-behind : rowBefore (getD fs k noFun) (getD fs j noFun) ≡ true → rowAhead (rowAt fs j) (rowAt fs k) ≡ false
-  ahead-behind e =
-      elim (whether (rowAhead (rowAt fs j) (rowAt fs k))) [
-        | inl a ↦ absurd (behind-more rowBefore row-orders (rowAt fs j) (rowAt fs k) e a)
-        | inr a ↦ a
-      ]
-
-  pub ahead-tied : rowBefore (getD fs j noFun) (getD fs k noFun) ≡ false → rowBefore (getD fs k noFun) (getD fs j noFun) ≡ false → rowAhead (rowAt fs j) (rowAt fs k) ≡ ltb j k
-  unfolding ahead
-  ahead-tied e d = rw (e, d)
+-- the same of a row that may stand for none
+abbrev pub Known : List ℕ → Row → Type 0
+Known tree r = (r .number ≡ length (functionsOf gate tree) → ⊥) → Held tree r

@@ -1,16 +1,15 @@
 -- A row of update by what it is made of, and its length in plain numbers.
 use Prim.Native.Nat.{ℕ, _+_, _≤_}
 use mathlib.Core.Path.{_≡_, refl, ap, ap₂, sym, _∙_}
-use mathlib.Core.Bool.{true, false}
-use mathlib.Core.List.{List, [], _∷_, _++_, append-assoc, append-nil}
+use mathlib.Core.List.{List, [], _∷_, _++_, append-assoc}
 use native.Mathlib.Omega.{arith}
 use lib.ListN.{length, drop, length-append}
-use Rattle.text_rules.specs.Bytes.{ascii, before, joined, overwritten, putAt, same}
+use Rattle.text_rules.specs.Bytes.{ascii, joined, overwritten, putAt}
 use Rattle.text_rules.specs.Classes.{lf}
 use Rattle.text_rules.specs.Decimal.{decimal}
 use Rattle.text_rules.specs.WriterLaws.{joined-length, put-then}
 use Rattle.gate_rules.specs.Functions.{Fun, Limits}
-use Rattle.gate_rules.specs.Update.{baselineText, header, recorded, row, rowBefore, rows}
+use Rattle.gate_rules.specs.Update.{baselineText, header, recorded, row, rows}
 use Rattle.functions.specs.Shown.{Lies}
 use Rattle.functions.specs.declared.Function.{Function}
 
@@ -67,20 +66,6 @@ narrow tree f l h =
     let a = l .path-inside in
     let b = l .name-inside in
     record { path-order = l .path-order; path-short = omega arith; name-order = l .name-order; name-short = omega arith }
-
--- the ways that code goes through the order of the rows
-module _ (f g : Fun) where
-  pub row-first : before (f .path) (g .path) ≡ true → rowBefore f g ≡ true
-  unfolding rowBefore
-  row-first h = rw h
-
-  pub row-other : before (f .path) (g .path) ≡ false → same (f .path) (g .path) ≡ false → rowBefore f g ≡ false
-  unfolding rowBefore
-  row-other h k = rw (h, k)
-
-  pub row-named : before (f .path) (g .path) ≡ false → same (f .path) (g .path) ≡ true → rowBefore f g ≡ before (f .name) (g .name)
-  unfolding rowBefore
-  row-named h k = rw (h, k)
 
 -- path and name put, and the measures behind them, are the row
 pub put-lined : (f : Fun) (path name : List ℕ) (at next end : ℕ) (s t u : List ℕ) → path ≡ f .path → name ≡ f .name → at + linedLength f ≤ length s

@@ -13,7 +13,10 @@ use Rattle.text_rules.specs.BytesLaws.{orElse-first, orElse-rest, when-fails}
 use Rattle.gate_rules.specs.Calls.{Updated, outputAfter, recordsAfter, room, scanCall, scanNumber, updateAnswer, updateCall, updateNumber, workAfter}
 use Rattle.gate_rules.specs.Functions.{Limits}
 use Rattle.gate_rules.specs.Gate.{gate}
+use Rattle.gate_rules.specs.LeftLaws.{update-keeps}
 use Rattle.gate_rules.specs.Scan.{functionsOf}
+use Rattle.gate_rules.specs.SettlesProof.{updated-enough}
+use Rattle.gate_rules.specs.TableLaws.{answer-number, updated-number}
 use Rattle.gate_rules.specs.Tree.{treeRefusal}
 use Rattle.gate_rules.specs.Update.{baselineText, recorded}
 use Rattle.answers.specs.declared.Answer.{Answer}
@@ -36,13 +39,26 @@ pub updates-by : (r : UpdateAnswer) (K L : Limits) (tree work records′ output 
     → Updates r (updateCall gate L tree work records′ output) w l o
 updates-by r K L tree work records′ output w l o e u = subst (λ M. Updates r (updateCall gate M tree work records′ output) w l o) e u
 
+-- what is written lies in the output, as a caller that reads it back asks
+written-most : (L : Limits) (tree work records′ output : List ℕ) (n : ℕ) → updateNumber gate L tree work records′ output ≡ n → updateAnswer L n (functionsOf gate tree) .written ≤ length output
+unfolding updateCall
+written-most L tree work records′ output zero e = updated-enough L gate tree work records′ output (updated-number L _ _ ∙ e) .output-holds
+written-most L tree work records′ output (suc n) e = omega arith
+
+pub written-inside : (r : UpdateAnswer) (L : Limits) (tree work records′ output w l o : List ℕ) → Updates r (updateCall gate L tree work records′ output) w l o → r .written ≤ length o
+unfolding updateCall
+written-inside r L tree work records′ output w l o u =
+    omega (
+      arith,
+      u .written-is,
+      ap length (u .output-is),
+      update-keeps L tree work records′ output .same-output,
+      written-most L tree work records′ output (updateNumber gate L tree work records′ output) refl,
+    )
+
 or-else : (a b c : ℕ) → (a orElse b) orElse c ≡ a orElse (b orElse c)
 or-else zero b c = refl
 or-else (suc a) b c = refl
-
-answered : (n written functions : ℕ) → answerAt n written functions .number ≡ n
-answered zero written functions = refl
-answered (suc n) written functions = refl
 
 module _ (L : Limits) (tree work records′ output : List ℕ) where
   -- update's number is the scan's, and where that is 0 the output may be too short
@@ -71,7 +87,7 @@ module _ (L : Limits) (tree work records′ output : List ℕ) where
   module _ (s : Answer) (w l : List ℕ) (scanned : Scans s (scanCall gate tree work records′) w l) where
     scan-number : s .number ≡ scanNumber gate tree work records′
     unfolding scanCall
-    scan-number = scanned .number-is ∙ answered (scanNumber gate tree work records′) 0 (length (functionsOf gate tree))
+    scan-number = scanned .number-is ∙ answer-number (scanNumber gate tree work records′) 0 (length (functionsOf gate tree))
 
     work-at : (n : ℕ) → scanNumber gate tree work records′ ≡ n → w ≡ workAfter gate n tree work
     unfolding scanCall

@@ -2,16 +2,16 @@
 ghost use mathlib.Core.Path.{_≡_};
 ghost use mathlib.Core.List.{List, [], _∷_, _++_};
 ghost use Prim.Native.Nat.{ℕ, _+_, _≤_, _<_};
-ghost use lib.ListN.{length, getD};
-ghost use Rattle.text_rules.specs.Bytes.{overwritten, putAt};
+ghost use lib.ListN.{length};
+ghost use Rattle.text_rules.specs.Bytes.{overwritten, putAt, same};
 ghost use Rattle.text_rules.specs.Selection.{Placed, placedFrom};
 ghost use Rattle.gate_rules.specs.Calls.{updateCall};
 ghost use Rattle.gate_rules.specs.Functions.{Fun, gateLimits};
 ghost use Rattle.gate_rules.specs.Gate.{gate};
 ghost use Rattle.gate_rules.specs.Scan.{functionsOf};
-ghost use Rattle.gate_rules.specs.Update.{baselineText, header, recorded, rowBefore, rows};
-ghost use Rattle.functions.specs.Shown.{Lies, Stand, limitsOf, noFun, shown};
-ghost use Rattle.gate_update.specs.Choice.{Chosen, Decides, Fit, rowAhead, rowAt};
+ghost use Rattle.gate_rules.specs.Update.{baselineText, header, recorded, rows};
+ghost use Rattle.functions.specs.Shown.{Lies, Stand, limitsOf, shown};
+ghost use Rattle.gate_update.specs.Choice.{Chosen, Decides, Fit, Held, Known, rowAhead, rowAt};
 ghost use Rattle.gate_update.specs.Rows.{Narrow, keyed, keyedLength, lined, linedLength, measured, measuredLength};
 ghost use Rattle.gate_update.specs.Updates.{Updates};
 use functions::Function;
@@ -99,101 +99,132 @@ fn put_row(tree: &[u8], f: Function, out: &mut [u8], at: usize) -> usize
     put_measures(out, next, f.cyclomatic, f.lines)
 }
 
-// The order of the rows: by path bytes, and where the paths are the same by name.
-fn row_before(tree: &[u8], f: Function, g: Function) -> bool
+// Whether two functions have the same path. Those of one file have the same bounds, and no byte is compared.
+fn same_path(tree: &[u8], f: Function, g: Function) -> bool
     requires { ⌜ Lies (now tree) f × Lies (now tree) g ⌝ }
-    ensures { λ r. ⌜ r ≡ rowBefore (shown (now (tree .entry)) f) (shown (now (tree .entry)) g) ⌝ }
+    ensures { λ r. ⌜ r ≡ same (shown (now (tree .entry)) f .path) (shown (now (tree .entry)) g .path) ⌝ }
 {
-    if order::before(path_of(tree, f), path_of(tree, g)) {
-        return true;
+    if f.path_at == g.path_at {
+        if f.path_end == g.path_end {
+            return true;
+        }
     }
-    if !order::same_bytes(path_of(tree, f), path_of(tree, g)) {
-        return false;
-    }
-    order::before(name_of(tree, f), name_of(tree, g))
+    order::same_bytes(path_of(tree, f), path_of(tree, g))
 }
 
-// The row of the function j is ahead of that of k: before in the order of the rows, and where neither is, the one that comes first in scan order.
-fn is_ahead(tree: &[u8], lent: &[u8], j: usize, k: usize) -> bool
-    requires { ⌜ Stand (now tree) (now lent) × (j < length (functionsOf gate (now tree))) × (k < length (functionsOf gate (now tree))) ⌝ }
-    ensures { λ r. ⌜ r ≡ rowAhead (rowAt (functionsOf gate (now (tree .entry))) j) (rowAt (functionsOf gate (now (tree .entry))) k) ⌝ }
-{
-    let f = functions::function_at(tree, lent, j);
-    let g = functions::function_at(tree, lent, k);
-    if row_before(tree, f, g) {
-        return true;
-    }
-    if row_before(tree, g, f) {
-        return false;
-    }
-    j < k
+// A function by its number. The number of all functions stands for none.
+struct Row {
+    number: usize,
+    function: Function,
 }
 
-// The function k is over-limit and its row is behind the last one written. At first none is: then `last` is the number of functions, `n`.
-fn is_next(tree: &[u8], lent: &[u8], n: usize, limits: Limits, last: usize, k: usize) -> bool
-    requires { ⌜ Stand (now tree) (now lent) × (n ≡ length (functionsOf gate (now tree))) × (last ≤ n) × (k < n) ⌝ }
-    ensures { λ r. ⌜ Decides (Fit (functionsOf gate (now (tree .entry))) (limitsOf limits) last (rowAt (functionsOf gate (now (tree .entry))) k)) r ⌝ }
+// No row, where there are `n` functions.
+fn no_row(n: usize) -> Row
+    ensures { λ r. ⌜ r .number ≡ n ⌝ }
 {
-    let f = functions::function_at(tree, lent, k);
-    if !functions::is_over(limits, f) {
-        return false;
+    Row {
+        number: n,
+        function: Function {
+            path_at: 0,
+            path_end: 0,
+            name_at: 0,
+            name_end: 0,
+            line: 0,
+            lines: 0,
+            cyclomatic: 0,
+            nesting: 0,
+            params: 0,
+        },
     }
-    if last == n {
-        return true;
-    }
-    is_ahead(tree, lent, last, k)
 }
 
-// The next row among the functions seen so far, `best`, or that of the function k.
-fn better(
-    tree: &[u8],
-    lent: &[u8],
-    n: usize,
-    limits: Limits,
-    last: usize,
-    best: usize,
-    k: usize,
-) -> usize
-    requires { ⌜ Stand (now tree) (now lent) × (n ≡ length (functionsOf gate (now tree))) × (last ≤ n) × (best ≤ n) × (k < n) ⌝ }
+// The row of the function k.
+fn row_at(tree: &[u8], lent: &[u8], k: usize) -> Row
+    requires { ⌜ Stand (now tree) (now lent) × (k < length (functionsOf gate (now tree))) ⌝ }
+    ensures { λ r. ⌜ (r .number ≡ k) × Held (now (tree .entry)) r ⌝ }
+{
+    Row {
+        number: k,
+        function: functions::function_at(tree, lent, k),
+    }
+}
+
+// A row is ahead of another: by path, and where the paths are the same by name, and where these are the same too by scan order.
+fn is_ahead(tree: &[u8], p: Row, q: Row) -> bool
+    requires { ⌜ Held (now tree) p × Held (now tree) q ⌝ }
+    ensures { λ r. ⌜ r ≡ rowAhead (rowAt (functionsOf gate (now (tree .entry))) (p .number)) (rowAt (functionsOf gate (now (tree .entry))) (q .number)) ⌝ }
+{
+    let f = p.function;
+    let g = q.function;
+    if !same_path(tree, f, g) {
+        return order::before(path_of(tree, f), path_of(tree, g));
+    }
+    if !order::same_bytes(name_of(tree, f), name_of(tree, g)) {
+        return order::before(name_of(tree, f), name_of(tree, g));
+    }
+    p.number < q.number
+}
+
+// The function is over-limit and its row is behind the last one written, if there is one.
+fn is_next(tree: &[u8], n: usize, limits: Limits, last: Row, here: Row) -> bool
+    requires { ⌜ (n ≡ length (functionsOf gate (now tree))) × Known (now tree) last × Held (now tree) here ⌝ }
+    ensures { λ r. ⌜ Decides (Fit (functionsOf gate (now (tree .entry))) (limitsOf limits) (last .number) (rowAt (functionsOf gate (now (tree .entry))) (here .number))) r ⌝ }
+{
+    if !functions::is_over(limits, here.function) {
+        return false;
+    }
+    if last.number == n {
+        return true;
+    }
+    is_ahead(tree, last, here)
+}
+
+// The next row: the best among the functions seen so far, or this one.
+fn better(tree: &[u8], n: usize, limits: Limits, last: Row, best: Row, here: Row) -> Row
+    requires { ⌜ (n ≡ length (functionsOf gate (now tree))) × Known (now tree) last × Known (now tree) best × Held (now tree) here ⌝ }
     ensures { λ r. ⌜
-        (r ≤ n)
-        × ((seen : List (Placed Fun)) → Chosen (functionsOf gate (now (tree .entry))) (limitsOf limits) last seen best
-        → Chosen (functionsOf gate (now (tree .entry))) (limitsOf limits) last (seen ++ rowAt (functionsOf gate (now (tree .entry))) k ∷ []) r)
+        Known (now (tree .entry)) r
+        × ((seen : List (Placed Fun)) → Chosen (functionsOf gate (now (tree .entry))) (limitsOf limits) (last .number) seen (best .number)
+        → Chosen (functionsOf gate (now (tree .entry))) (limitsOf limits) (last .number) (seen ++ rowAt (functionsOf gate (now (tree .entry))) (here .number) ∷ []) (r .number))
         ⌝ }
 {
-    if !is_next(tree, lent, n, limits, last, k) {
+    if !is_next(tree, n, limits, last, here) {
         return best;
     }
-    if best == n {
-        return k;
+    if best.number == n {
+        return here;
     }
-    if is_ahead(tree, lent, k, best) {
-        return k;
+    if is_ahead(tree, here, best) {
+        return here;
     }
     best
 }
 
-// The next row behind the last one written; `n` where there is none.
-fn next_row(tree: &[u8], lent: &[u8], n: usize, limits: Limits, last: usize) -> usize
-    requires { ⌜ Stand (now tree) (now lent) × (n ≡ length (functionsOf gate (now tree))) × (last ≤ n) ⌝ }
-    ensures { λ r. ⌜ (r ≤ n) × Chosen (functionsOf gate (now (tree .entry))) (limitsOf limits) last (placedFrom 0 (functionsOf gate (now (tree .entry)))) r ⌝ }
+// The next row behind the last one written. Each row takes a pass over all functions: there is no room lent to sort in.
+fn next_row(tree: &[u8], lent: &[u8], n: usize, limits: Limits, last: Row) -> Row
+    requires { ⌜ Stand (now tree) (now lent) × (n ≡ length (functionsOf gate (now tree))) × Known (now tree) last ⌝ }
+    ensures { λ r. ⌜
+        Known (now (tree .entry)) r
+        × Chosen (functionsOf gate (now (tree .entry))) (limitsOf limits) (last .number) (placedFrom 0 (functionsOf gate (now (tree .entry)))) (r .number)
+        ⌝ }
 {
-    let mut best = n;
+    let mut best = no_row(n);
     let mut k: usize = 0;
     while k < n {
-        best = better(tree, lent, n, limits, last, best, k);
+        let here = row_at(tree, lent, k);
+        best = better(tree, n, limits, last, best, here);
         k += 1;
     }
     best
 }
 
-// How many rows there are, and their bytes.
+// How many rows there are, and their bytes together.
 struct RowsSize {
-    pub count: usize,
-    pub bytes: usize,
+    count: usize,
+    bytes: usize,
 }
 
-// The rows of the over-limit functions together. In any order they have the same length.
+// The size of all rows. It is the same in any order, so the functions are counted in scan order.
 fn rows_size(tree: &[u8], lent: &[u8], n: usize, limits: Limits) -> RowsSize
     requires { ⌜ Stand (now tree) (now lent) × (n ≡ length (functionsOf gate (now tree))) ⌝ }
     ensures { λ r. ⌜
@@ -217,22 +248,6 @@ fn rows_size(tree: &[u8], lent: &[u8], n: usize, limits: Limits) -> RowsSize
     RowsSize { count, bytes }
 }
 
-// The row of the function k.
-fn put_row_of(tree: &[u8], lent: &[u8], k: usize, out: &mut [u8], at: usize) -> usize
-    requires { ⌜
-        Stand (now tree) (now lent)
-        × (k < length (functionsOf gate (now tree)))
-        × (at + linedLength (getD (functionsOf gate (now tree)) k noFun) ≤ length (now out))
-        ⌝ }
-    ensures { λ r. ⌜
-        (r ≡ at + linedLength (getD (functionsOf gate (now (tree .entry))) k noFun))
-        × (now (out .exit) ≡ putAt at (lined (getD (functionsOf gate (now (tree .entry))) k noFun)) (now (out .entry)))
-        ⌝ }
-{
-    let f = functions::function_at(tree, lent, k);
-    put_row(tree, f, out, at)
-}
-
 // All rows in their order, `count` of them.
 fn put_rows(
     tree: &[u8],
@@ -254,12 +269,12 @@ fn put_rows(
         × (now (out .exit) ≡ putAt at (rows (recorded (limitsOf limits) (functionsOf gate (now (tree .entry))))) (now (out .entry)))
         ⌝ }
 {
-    let mut last = n;
+    let mut last = no_row(n);
     let mut end = at;
     let mut done: usize = 0;
     while done < count {
         last = next_row(tree, lent, n, limits, last);
-        end = put_row_of(tree, lent, last, out, end);
+        end = put_row(tree, last.function, out, end);
         done += 1;
     }
     end

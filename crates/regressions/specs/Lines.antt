@@ -6,11 +6,11 @@ use mathlib.Core.List.{List, [], _∷_, _++_, append-assoc, append-nil}
 use mathlib.Core.Option.{Option, none, some}
 use native.Mathlib.Omega.{arith}
 use lib.Dec.{ltb}
-use lib.ListN.{length, length-append, length-drop, length-take}
+use lib.ListN.{length, length-append}
 use Rattle.text_rules.specs.Bytes.{ascii, if_then_else_, joined, putAt}
 use Rattle.text_rules.specs.Decimal.{decimal}
 use Rattle.text_rules.specs.PutLaws.{put-length, put-next}
-use Rattle.text_rules.specs.Search.{part}
+use Rattle.text_rules.specs.SearchLaws.{part-length}
 use Rattle.text_rules.specs.WriterLaws.{joined-length, put-none}
 use Rattle.gate_rules.specs.Baseline.{Entry}
 use Rattle.gate_rules.specs.Check.{against, listed, location, moreBranches, moreLines, newAndOver}
@@ -43,6 +43,7 @@ grownOf f m = branchesOf f m ++ linesOf f m
 abbrev pub newOf : Limits → Fun → List (List ℕ)
 newOf L f = if over L f then newAndOver f ∷ [] else []
 
+-- the lines of a function against what is accepted of it
 abbrev pub accepts : Limits → Fun → Accepted → List (List ℕ)
 accepts L f (Measures m) = grownOf f m
 accepts L f Unlisted = newOf L f
@@ -63,9 +64,6 @@ pub record Small (f : Function) : Type 0 where
 pub lies-small : {tree : List ℕ} {f : Function} → Lies tree f → length tree ≤ 16777216 → Small f
 lies-small {tree} {f} l h =
     record { path-order = l .path-order; path-small = omega (arith, l .path-inside); name-order = l .name-order; name-small = omega (arith, l .name-inside) }
-
-part-length : (from to : ℕ) (s : List ℕ) → from ≤ to → to ≤ length s → length (part from to s) ≡ to - from
-part-length from to s h k = simp (length-take, length-drop) (omega arith)
 
 pub path-length : {tree : List ℕ} {f : Function} → Lies tree f → length (shown tree f .path) ≡ f .«path_end» - f .«path_at»
 path-length {tree} {f} l = part-length (f .«path_at») (f .«path_end») tree (l .path-order) (l .path-inside)

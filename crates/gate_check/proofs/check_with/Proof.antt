@@ -16,7 +16,7 @@ returns : tie.Need-returns
 returns c =
     let a = c .before .before .before .before .before .before .before .before .args in
     long-checks (limitsOf (a .limits)) (now (a .tree)) (now (a .baseline)) (now (a .work)) (now (a .lent)) (now (a .output)) (c .refusal .result) (c .before .long-number .result)
-    (c .before .before .if1 .taken) (c .before .long-number .ensures) (c .refusal .ensures)
+    (omega (arith, c .before .before .if1 .taken)) (c .before .long-number .ensures) (c .refusal .ensures)
 
 returns-2 : tie.Need-returns-2
 returns-2 c =

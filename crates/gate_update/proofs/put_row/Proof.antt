@@ -1,5 +1,5 @@
 -- `gate_update::put_row` meets its contract: the measures are put behind path and name.
-use mathlib.Core.Path.{_∙_, ap, ap₂}
+use mathlib.Core.Path.{ap₂}
 use native.Mathlib.Omega.{arith}
 use denote.Ref.{now}
 use Rattle.functions.specs.Shown.{shown}

@@ -29,18 +29,6 @@ loop-holds : tie.Need-loop-holds Inv-loop μ-loop
 loop-holds c =
     (omega arith, omega arith, omega arith)
 
-function-at-requires : tie.Need-function-at-requires Inv-loop μ-loop
-function-at-requires c κs =
-    search needs
-
-add-k : tie.Need-add-k Inv-loop μ-loop
-add-k c =
-    search needs
-
-is-over-requires : tie.Need-is-over-requires Inv-loop μ-loop
-is-over-requires c κs =
-    search needs
-
 add-count : tie.Need-add-count Inv-loop μ-loop
 add-count c =
     let fa = c .before .before in
@@ -78,10 +66,6 @@ add-bytes c =
     let size = c .row-length .ensures tree (fa .function-at .ensures .1) ∙ ap linedLength e in
     record { fits = omega (arith, l .loop .inv .2, size, bytes-over L fs k (omega (arith, s .pre .1)) isOver, rows-short L tree (now (a .lent)) (s .pre .0)) }
 
-loop-less : tie.Need-loop-less Inv-loop μ-loop
-loop-less c =
-    search needs
-
 loop-again : tie.Need-loop-again Inv-loop μ-loop
 loop-again c =
     let th = c .before in
@@ -97,10 +81,6 @@ loop-again c =
     let isOver : over L (getD fs k noFun) ≡ true = sym (ap (over L) e) ∙ sym (th .before .is-over .ensures tree) ∙ th .if1 .taken in
     let size = c .row-length .ensures tree (fa .function-at .ensures .1) ∙ ap linedLength e in
     (omega arith, omega (arith, l .loop .inv .1, count-over L fs k (omega (arith, s .pre .1)) isOver), omega (arith, l .loop .inv .2, size, bytes-over L fs k (omega (arith, s .pre .1)) isOver))
-
-loop-less-2 : tie.Need-loop-less-2 Inv-loop μ-loop
-loop-less-2 c =
-    search needs
 
 loop-again-2 : tie.Need-loop-again-2 Inv-loop μ-loop
 loop-again-2 c =
@@ -140,14 +120,14 @@ rows-size-spec =
     Inv-loop
     μ-loop
     loop-holds
-    function-at-requires
-    add-k
-    is-over-requires
+    (λ c κs. search needs)
+    (λ c. search needs)
+    (λ c κs. search needs)
     add-count
     row-length-requires
     add-bytes
-    loop-less
+    (λ c. search needs)
     loop-again
-    loop-less-2
+    (λ c. search needs)
     loop-again-2
     returns)

@@ -1,5 +1,4 @@
 -- `gate_update::update_with` meets its contract: the scan's refusals come first, and the output's length is compared before anything is written.
-use Prim.Native.Nat.{_≤_, _<_}
 use mathlib.Core.Path.{refl}
 use native.Mathlib.Omega.{arith}
 use denote.Ref.{now}
