@@ -136,30 +136,32 @@ fn agree(call: Call, load: &Load, b: &mut Buffers) {
     }
 }
 
-fn row(call: Call, make: &dyn Fn(usize) -> Load, b: &mut Buffers) {
-    let name = make(32).name;
-    let head = format!("| {name} | {}", call.text());
-    for (side, is_port) in [("the port", true), ("the original", false)] {
-        let mut timed = |divisor: usize| {
-            let load = make(divisor);
-            measure::seconds(|| if is_port { port(call, &load, b) } else { original_call(call, &load) })
-        };
-        let seen = measure::foreseen(&mut timed);
+/// What to say of a side that would take too long.
+fn foreseen(is_port: bool, call: Call, make: &dyn Fn(usize) -> Load, b: &mut Buffers) -> Option<String> {
+    measure::foreseen(&mut |divisor| {
+        let load = make(divisor);
+        let taken = measure::seconds(|| if is_port { port(call, &load, b) } else { original_call(call, &load) });
         memory::printed();
-        if let Some(seen) = seen {
-            std::println!("{head} | {side} would take over 60 s: {seen} | | | |");
-            return;
-        }
-    }
+        taken
+    })
+}
+
+fn row(call: Call, make: &dyn Fn(usize) -> Load, b: &mut Buffers) {
+    let too_long = (foreseen(true, call, make, b), foreseen(false, call, make, b));
+    let divisor = if too_long == (None, None) { 1 } else { 32 };
+    agree(call, &make(divisor), b);
     let load = make(1);
-    agree(call, &load, b);
     let mut row = Row::default();
     while row.wanted() {
-        row.port.push(measure::seconds(|| port(call, &load, b)));
-        row.original.push(measure::seconds(|| original_call(call, &load)));
-        memory::printed();
+        if too_long.0.is_none() {
+            row.port.push(measure::seconds(|| port(call, &load, b)));
+        }
+        if too_long.1.is_none() {
+            row.original.push(measure::seconds(|| original_call(call, &load)));
+            memory::printed();
+        }
     }
-    std::println!("{head} | {}", row.cells());
+    std::println!("| {} | {} | {}", load.name, call.text(), row.cells(&too_long.0, &too_long.1));
 }
 
 fn main() {
@@ -183,6 +185,7 @@ fn main() {
         (&all, Box::new(|d| workloads::real(&real, 1_000_000, d))),
         (&all, Box::new(|d| workloads::real(&real, 4_000_000, d))),
         (&all, Box::new(|d| workloads::real(&real, 16_000_000, d))),
+        (&[Call::Scan], Box::new(|d| workloads::one_body(&real, d))),
         (&whole, Box::new(|d| workloads::tiny(false, d))),
         (&whole, Box::new(|d| workloads::tiny(true, d))),
         (&[Call::Check], Box::new(workloads::alive)),

@@ -40,7 +40,7 @@ pub fn foreseen(timed: &mut dyn FnMut(usize) -> f64) -> Option<String> {
     }
     let growth = (small / timed(32)).clamp(2.0, 8.0);
     let whole = small * growth.powi(4);
-    (whole > LONGEST).then(|| format!("a sixteenth takes {small:.2} s, {growth:.1} times half of that input"))
+    (whole > LONGEST).then(|| format!("a sixteenth takes {small:.1} s, {growth:.1} times half of that"))
 }
 
 #[derive(Default)]
@@ -56,27 +56,28 @@ fn median(values: &[f64]) -> f64 {
 }
 
 impl Row {
-    /// At least 3 runs, then up to 15 as long as they take less than 4 s.
+    /// At least 3 runs, then up to 15 as long as they take less than 4 s. A side that would take too long has none.
     pub fn wanted(&self) -> bool {
         let spent: f64 = self.port.iter().chain(&self.original).sum();
-        self.port.len() < 3 || (self.port.len() < 15 && spent < 4.0)
+        let runs = self.port.len().max(self.original.len());
+        runs < 3 || (runs < 15 && spent < 4.0)
     }
 
-    pub fn cells(&self) -> String {
-        let (port, original) = (median(&self.port), median(&self.original));
+    pub fn cells(&self, port: &Option<String>, original: &Option<String>) -> String {
+        let side = |foreseen: &Option<String>, runs: &[f64]| match foreseen {
+            Some(said) => format!("over 60 s: {said}"),
+            None => format!("{:.2}", median(runs) * 1e3),
+        };
+        let times = format!("{} | {}", side(port, &self.port), side(original, &self.original));
         let ratios: Vec<f64> = self.port.iter().zip(&self.original).map(|(p, o)| p / o).collect();
+        if ratios.is_empty() {
+            return format!("{times} | | | |");
+        }
         let low = ratios.iter().copied().fold(f64::INFINITY, f64::min);
         let high = ratios.iter().copied().fold(0.0, f64::max);
         let shown = |r: f64| if r < 0.095 { format!("{r:.4}") } else { format!("{r:.2}") };
-        format!(
-            "{:.2} | {:.2} | {} | {} to {} | {} |",
-            port * 1e3,
-            original * 1e3,
-            shown(port / original),
-            shown(low),
-            shown(high),
-            ratios.len()
-        )
+        let ratio = shown(median(&self.port) / median(&self.original));
+        format!("{times} | {ratio} | {} to {} | {} |", shown(low), shown(high), ratios.len())
     }
 }
 

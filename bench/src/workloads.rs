@@ -65,8 +65,15 @@ pub fn real(real: &Real, size: usize, divisor: usize) -> Load {
     }
     let funs: Vec<oracle::Fun> = files.iter().flat_map(|(p, t)| oracle::scan(p, t)).collect();
     let baseline = original::update_text(&funs).0;
-    let name = format!("real Rust, {} MB", size as f64 / 1e6);
+    let name = format!("real Rust, {} MB, {} functions", size as f64 / 1e6, funs.len());
     Load::new(&name, files, baseline)
+}
+
+/// Real Rust in the body of one function.
+pub fn one_body(real: &Real, divisor: usize) -> Load {
+    let all: String = real.files.iter().map(|file| file.0.as_str()).collect();
+    let text = format!("fn all() {{\n{}\n}}\n", all.repeat(1_000_000 / divisor / all.len() + 1));
+    Load::new("real Rust in one body, 1 MB", vec![("src/a.rs".to_string(), text)], Vec::new())
 }
 
 /// As many functions as there may be, in one file.
