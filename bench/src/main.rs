@@ -1,0 +1,207 @@
+//! Times of the proved library and of the Rust original, in one process: `bench ROOT` prints a table in Markdown. README.md says what is
+//! measured. Exit status 1 where the two sides give other bytes.
+
+use std::hint::black_box;
+use std::path::PathBuf;
+
+#[allow(dead_code)]
+#[macro_use]
+#[path = "../../differential/src/memory.rs"]
+mod memory;
+include!(concat!(env!("OUT_DIR"), "/module.rs"));
+#[allow(dead_code)]
+#[path = "../../differential/src/inputs.rs"]
+mod inputs;
+#[path = "../../differential/src/library.rs"]
+mod library;
+mod measure;
+#[allow(dead_code)]
+#[path = "../../differential/src/model.rs"]
+mod model;
+#[allow(dead_code)]
+#[path = "../../differential/src/original.rs"]
+mod original;
+#[allow(dead_code)]
+#[path = "../../differential/src/sources.rs"]
+mod sources;
+mod workloads;
+
+use library::Slices;
+use measure::Row;
+use model::{MAX_BASELINE, MAX_FUNCTIONS, RECORD_WIDTH};
+use oracle::Fun;
+use workloads::{Load, Real};
+
+#[derive(Clone, Copy, PartialEq, Eq)]
+pub enum Call {
+    Blank,
+    Scan,
+    Check,
+    Update,
+    Report,
+}
+
+impl Call {
+    fn text(self) -> &'static str {
+        match self {
+            Call::Blank => "blank",
+            Call::Scan => "scan",
+            Call::Check => "check",
+            Call::Update => "update",
+            Call::Report => "report",
+        }
+    }
+
+    fn there(self) -> bool {
+        match self {
+            Call::Check => cfg!(has_check),
+            Call::Report => cfg!(has_report),
+            _ => true,
+        }
+    }
+}
+
+/// The library's buffers, lent again to each call.
+pub struct Buffers {
+    work: Vec<u8>,
+    records: Vec<u8>,
+    output: Vec<u8>,
+    counts: Vec<u8>,
+}
+
+impl Buffers {
+    fn written(&self) -> &[u8] {
+        let size = u32::from_le_bytes(self.counts[..4].try_into().expect("four bytes")) as usize;
+        &self.output[..size]
+    }
+}
+
+/// From tree bytes to listing.
+fn port(call: Call, load: &Load, b: &mut Buffers) {
+    if call == Call::Blank {
+        for (_, text) in &load.files {
+            assert!(library::blank(text.as_bytes(), &mut b.work) == 0, "blank refuses");
+        }
+        return;
+    }
+    let mut s = Slices { work: &mut b.work, records: &mut b.records, output: &mut b.output, counts: &mut b.counts };
+    let number = match call {
+        Call::Scan => library::scan(&load.tree, &mut s),
+        Call::Check => library::check(&load.tree, &load.baseline, &mut s),
+        Call::Update => library::update(&load.tree, &mut s),
+        _ => library::report(&load.tree, &mut s),
+    };
+    assert!(number == 0, "{} refuses with {number}", call.text());
+}
+
+fn scanned(load: &Load) -> Vec<Fun> {
+    load.files.iter().flat_map(|(path, text)| oracle::scan(path, text)).collect()
+}
+
+/// The original's scan of the same texts and its text, which it leaves in memory.
+fn original_call(call: Call, load: &Load) {
+    match call {
+        Call::Blank => {
+            for (_, text) in &load.files {
+                black_box(oracle::blanked(text));
+            }
+        }
+        Call::Scan => {
+            black_box(scanned(load));
+        }
+        Call::Check => {
+            memory::write("", &load.baseline).expect("in memory");
+            black_box(oracle::check(&scanned(load)));
+        }
+        Call::Update => oracle::update(&scanned(load)),
+        Call::Report => oracle::report(&scanned(load)),
+    }
+}
+
+/// Both sides once: the listings must be the same.
+fn agree(call: Call, load: &Load, b: &mut Buffers) {
+    port(call, load, b);
+    memory::printed();
+    original_call(call, load);
+    let printed = memory::printed();
+    let same = match call {
+        Call::Blank => b.work.starts_with(&oracle::blanked(&load.files.last().expect("a file").1)),
+        Call::Scan => u32::from_le_bytes(b.counts[..4].try_into().expect("four bytes")) as usize == scanned(load).len(),
+        Call::Update => b.written() == memory::file(),
+        Call::Check | Call::Report => b.written() == printed.as_bytes(),
+    };
+    if !same {
+        eprintln!("bench: {} on {}: the two sides differ", call.text(), load.name);
+        std::process::exit(1);
+    }
+}
+
+/// What to say of a side that would take too long.
+fn foreseen(is_port: bool, call: Call, make: &dyn Fn(usize) -> Load, b: &mut Buffers) -> Option<String> {
+    measure::foreseen(&mut |divisor| {
+        let load = make(divisor);
+        let taken = measure::seconds(|| if is_port { port(call, &load, b) } else { original_call(call, &load) });
+        memory::printed();
+        taken
+    })
+}
+
+fn row(call: Call, make: &dyn Fn(usize) -> Load, b: &mut Buffers) {
+    let too_long = (foreseen(true, call, make, b), foreseen(false, call, make, b));
+    let divisor = if too_long == (None, None) { 1 } else { 32 };
+    agree(call, &make(divisor), b);
+    let load = make(1);
+    let mut row = Row::default();
+    while row.wanted() {
+        if too_long.0.is_none() {
+            row.port.push(measure::seconds(|| port(call, &load, b)));
+        }
+        if too_long.1.is_none() {
+            row.original.push(measure::seconds(|| original_call(call, &load)));
+            memory::printed();
+        }
+    }
+    std::println!("| {} | {} | {}", load.name, call.text(), row.cells(&too_long.0, &too_long.1));
+}
+
+fn main() {
+    let root = PathBuf::from(std::env::args().nth(1).expect("the project's root"));
+    let Some(sources) = sources::read(&root) else {
+        eprintln!("bench: no file {}", env!("ORIGINAL"));
+        std::process::exit(2);
+    };
+    let real = Real::new(&sources.files);
+    let mut buffers = Buffers {
+        work: vec![0; model::MAX_TREE],
+        records: vec![0; RECORD_WIDTH * MAX_FUNCTIONS],
+        output: vec![0; MAX_BASELINE],
+        counts: vec![0; 16],
+    };
+    let all = [Call::Blank, Call::Scan, Call::Check, Call::Update, Call::Report];
+    let whole = [Call::Scan, Call::Check, Call::Update, Call::Report];
+    type Make<'a> = Box<dyn Fn(usize) -> Load + 'a>;
+    let rows: Vec<(&[Call], Make)> = vec![
+        (&all, Box::new(|d| workloads::real(&real, 250_000, d))),
+        (&all, Box::new(|d| workloads::real(&real, 1_000_000, d))),
+        (&all, Box::new(|d| workloads::real(&real, 4_000_000, d))),
+        (&all, Box::new(|d| workloads::real(&real, 16_000_000, d))),
+        (&[Call::Scan], Box::new(|d| workloads::one_body(&real, d))),
+        (&whole, Box::new(|d| workloads::tiny(false, d))),
+        (&whole, Box::new(|d| workloads::tiny(true, d))),
+        (&[Call::Check], Box::new(workloads::alive)),
+        (&[Call::Check], Box::new(workloads::stale)),
+        (&[Call::Scan], Box::new(|d| workloads::unclosed("fn a(", d))),
+        (&[Call::Scan], Box::new(|d| workloads::unclosed("fn a(){", d))),
+    ];
+    std::println!("load average at the start: {}", measure::load_average());
+    std::println!();
+    std::println!("| Input | Call | Port, ms | Original, ms | Port / original | Lowest to highest | Runs |");
+    std::println!("|---|---|---|---|---|---|---|");
+    for (calls, make) in &rows {
+        for &call in calls.iter().filter(|c| c.there()) {
+            row(call, make, &mut buffers);
+        }
+    }
+    std::println!();
+    std::println!("load average at the end: {}", measure::load_average());
+}

@@ -1,0 +1,112 @@
+//! The inputs that are measured; `divisor` makes each that many times shorter.
+
+use std::fmt::Write as _;
+
+use crate::inputs::laid_out;
+use crate::model::MAX_FUNCTIONS;
+use crate::{oracle, original};
+
+pub struct Load {
+    pub name: String,
+    pub files: Vec<(String, String)>,
+    pub tree: Vec<u8>,
+    pub baseline: Vec<u8>,
+}
+
+impl Load {
+    fn new(name: &str, files: Vec<(String, String)>, baseline: Vec<u8>) -> Load {
+        let plain: Vec<_> = files.iter().map(|(p, t)| (p.as_bytes().to_vec(), t.as_bytes().to_vec())).collect();
+        Load { name: name.to_string(), tree: laid_out(&plain), files, baseline }
+    }
+}
+
+const LEAST_FILE: usize = 20_000;
+
+pub struct Real {
+    /// real files, each with its number of functions
+    files: Vec<(String, usize)>,
+}
+
+impl Real {
+    pub fn new(files: &[String]) -> Real {
+        // short files are put together, since a tree has at most 1,024
+        let mut texts = vec![String::new()];
+        for text in files {
+            if texts.last().is_some_and(|t| t.len() >= LEAST_FILE) {
+                texts.push(String::new());
+            }
+            texts.last_mut().expect("a text").push_str(text);
+        }
+        Real { files: texts.into_iter().map(|t| (t.clone(), oracle::scan("", &t).len())).collect() }
+    }
+}
+
+/// Real files, again and again under other paths. Where the functions would become too many, a file stands in one body.
+pub fn real(real: &Real, size: usize, divisor: usize) -> Load {
+    let wanted = size / divisor;
+    let mut files = Vec::new();
+    let mut made = 0;
+    let mut functions = 0;
+    while made < wanted {
+        let (text, count) = &real.files[files.len() % real.files.len()];
+        let allowed = MAX_FUNCTIONS * made.max(20_000) / size;
+        let wrapped = functions + count > allowed.min(MAX_FUNCTIONS);
+        let mut text = if wrapped { format!("fn all() {{\n{text}\n}}\n") } else { text.clone() };
+        if made + text.len() > wanted {
+            let mut end = wanted - made;
+            while !text.is_char_boundary(end) {
+                end -= 1;
+            }
+            text.truncate(end);
+        }
+        functions += if wrapped { 1 } else { *count };
+        made += text.len().max(1);
+        files.push((format!("src/f{:05}.rs", files.len()), text));
+    }
+    let funs: Vec<oracle::Fun> = files.iter().flat_map(|(p, t)| oracle::scan(p, t)).collect();
+    let baseline = original::update_text(&funs).0;
+    let name = format!("real Rust, {} MB, {} functions", size as f64 / 1e6, funs.len());
+    Load::new(&name, files, baseline)
+}
+
+/// Real Rust in the body of one function.
+pub fn one_body(real: &Real, divisor: usize) -> Load {
+    let all: String = real.files.iter().map(|file| file.0.as_str()).collect();
+    let text = format!("fn all() {{\n{}\n}}\n", all.repeat(1_000_000 / divisor / all.len() + 1));
+    Load::new("real Rust in one body, 1 MB", vec![("src/a.rs".to_string(), text)], Vec::new())
+}
+
+/// As many functions as there may be, in one file.
+pub fn tiny(over: bool, divisor: usize) -> Load {
+    let mut text = String::new();
+    for k in 0..MAX_FUNCTIONS / divisor {
+        let body = if over { "{{{{{{}}}}}}" } else { "{}" };
+        let _ = writeln!(text, "fn f{k}(){body}");
+    }
+    let name = format!("8,192 tiny functions, {} over", if over { "all" } else { "none" });
+    Load::new(&name, vec![("src/a.rs".to_string(), text)], Vec::new())
+}
+
+fn lines(count: usize) -> Vec<u8> {
+    let mut text = String::new();
+    for k in 0..count {
+        let _ = writeln!(text, "src/a.rs\tf{k}\t1\t1");
+    }
+    text.into_bytes()
+}
+
+pub fn alive(divisor: usize) -> Load {
+    let load = tiny(true, divisor);
+    Load { name: "8,192 baseline lines, all alive".to_string(), baseline: lines(MAX_FUNCTIONS / divisor), ..load }
+}
+
+pub fn stale(divisor: usize) -> Load {
+    let files = vec![("src/b.rs".to_string(), "fn a() {}\n".to_string())];
+    Load::new("200,000 baseline lines, all stale", files, lines(200_000 / divisor))
+}
+
+/// One signature or body after another that never closes.
+pub fn unclosed(piece: &str, divisor: usize) -> Load {
+    let text = piece.repeat(128 * 1024 / piece.len() / divisor);
+    Load::new(&format!("`{piece}` to 128 KB"), vec![("src/a.rs".to_string(), text)], Vec::new())
+}
