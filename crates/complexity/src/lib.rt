@@ -5,7 +5,7 @@ ghost use mathlib.Core.List.{[], _∷_};
 ghost use Prim.Native.Nat.{_≤_};
 ghost use lib.ListN.{length};
 ghost use Rattle.text_rules.specs.Bytes.{_orElse_};
-ghost use Rattle.gate_rules.specs.Exports.{exportedBlank, exportedCheck, exportedScan, exportedUpdate};
+ghost use Rattle.gate_rules.specs.Exports.{exportedBlank, exportedCheck, exportedReport, exportedScan, exportedUpdate};
 ghost use Rattle.gate_rules.specs.Functions.{gateLimits};
 ghost use Rattle.gate_rules.specs.Gate.{gate};
 ghost use Rattle.gate_rules.specs.Tree.{treeRefusal};
@@ -14,12 +14,15 @@ use answers::Answer;
 use gate_check::CheckAnswer;
 use gate_update::UpdateAnswer;
 
-// The bytes of the counts: functions; bytes written, functions, regressions and stale entries; bytes written, functions and functions recorded.
+// The bytes of the counts: functions; bytes written, functions, regressions and stale entries; bytes written, functions and functions recorded; bytes
+// written and functions.
 const SCAN_COUNTS: usize = 4;
 
 const CHECK_COUNTS: usize = 16;
 
 const UPDATE_COUNTS: usize = 12;
+
+const REPORT_COUNTS: usize = 8;
 
 // The number where too few bytes are lent for the counts: 5, at 5's place in the order.
 fn too_few(tree: &[u8]) -> u32
@@ -66,6 +69,18 @@ fn update_counts(r: UpdateAnswer, counts: &mut [u8]) -> u32
         words::put_u32(counts, 0, r.written);
         words::put_u32(counts, 4, r.functions);
         words::put_u32(counts, 8, r.recorded);
+    }
+    r.number
+}
+
+// The number, and on success the counts of a report.
+fn report_counts(r: Answer, counts: &mut [u8]) -> u32
+    requires { ⌜ 8 ≤ length (now counts) ⌝ }
+    ensures { λ n. ⌜ (n ≡ r .number) × CountsPut 8 (r .written ∷ r .functions ∷ []) (r .number) (now (counts .entry)) (now (counts .exit)) ⌝ }
+{
+    if r.number == 0 {
+        words::put_u32(counts, 0, r.written);
+        words::put_u32(counts, 4, r.functions);
     }
     r.number
 }
@@ -140,4 +155,25 @@ pub extern "C" fn complexity_update(
     }
     let r = gate_update::update(tree, work, records, output);
     update_counts(r, counts)
+}
+
+// The report of a tree, with a table of sums of its own. Counts: bytes written, functions.
+#[no_mangle]
+pub extern "C" fn complexity_report(
+    tree: &[u8],
+    work: &mut [u8],
+    records: &mut [u8],
+    output: &mut [u8],
+    counts: &mut [u8],
+) -> u32
+    ensures { λ r. ⌜
+        Ends r (exportedReport gate gateLimits (now (tree .entry)) (now (work .entry)) (now (records .entry)) (now (output .entry)) (now (counts .entry)))
+        (now (work .exit)) (now (records .exit)) (now (output .exit)) (now (counts .exit))
+        ⌝ }
+{
+    if counts.len() < REPORT_COUNTS {
+        return too_few(tree);
+    }
+    let r = gate_report::report_alone(tree, work, records, output);
+    report_counts(r, counts)
 }
