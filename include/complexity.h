@@ -46,6 +46,10 @@ uint32_t complexity_check(const uint8_t *tree, size_t tree_length, const uint8_t
 uint32_t complexity_update(const uint8_t *tree, size_t tree_length, uint8_t *work, size_t work_length, uint8_t *records,
                            size_t records_length, uint8_t *output, size_t output_length, uint8_t *counts, size_t counts_length);
 
+/* The report: counts, mean, the functions over the limits, the heaviest files. Counts, 8 bytes: bytes written, functions. */
+uint32_t complexity_report(const uint8_t *tree, size_t tree_length, uint8_t *work, size_t work_length, uint8_t *records,
+                           size_t records_length, uint8_t *output, size_t output_length, uint8_t *counts, size_t counts_length);
+
 #ifdef __cplusplus
 }
 #endif

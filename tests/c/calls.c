@@ -1,4 +1,4 @@
-/* The exported calls from C: a text blanked, a tree scanned, updated and checked, and refusals that leave every buffer as it was. */
+/* The exported calls from C: a text blanked, a tree scanned, reported, updated and checked, and refusals that leave every buffer as it was. */
 #include "complexity.h"
 
 #include <stdio.h>
@@ -66,12 +66,17 @@ static void checking(void) {
     const char *pass = "complexity: no function got worse, nothing new is over the thresholds\n";
     const char *fail = "complexity: 1 regressions\n  src/b.rs:1 wide is new and over: cyclomatic 1 lines 1 nesting 1 params 8\n";
     const char *stale = "1 baseline entries no longer exist:\n  src/c.rs gone\nrun --update to drop them\n";
+    const char *report = "2 functions in src/\nmean cyclomatic 1.5, over the thresholds: 1\n\ncyclo lines nest params  where\n"
+                         "    1     1    1      8  src/b.rs:1 wide\n\nheaviest files by total cyclomatic complexity\n     2  src/a.rs\n     1  src/b.rs\n";
     pack(2, paths, texts);
 
     expect(complexity_scan(tree, tree_length, work, ROOM, records, ROOM, counts, 4) == 0, "scan succeeds");
     expect(number_at(counts) == 2, "two functions are counted");
     expect(number_at(records + RECORD) == 1, "the second record is of the second file");
     expect(memcmp(tree + number_at(records + 4), "small", number_at(records + 8)) == 0, "a record tells where the name stands");
+
+    expect(complexity_report(tree, tree_length, work, ROOM, records, ROOM, output, ROOM, counts, 8) == 0, "report succeeds");
+    expect(number_at(counts) == strlen(report) && memcmp(output, report, strlen(report)) == 0, "the report lists what is over the limits");
 
     expect(complexity_check(tree, tree_length, baseline, 0, work, ROOM, records, ROOM, output, ROOM, counts, 16) == 0, "check succeeds");
     expect(number_at(counts) == strlen(fail) && memcmp(output, fail, strlen(fail)) == 0, "a new function over the limits is a regression");
