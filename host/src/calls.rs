@@ -41,7 +41,6 @@ unsafe extern "C" {
         counts: *mut u8,
         counts_length: usize,
     ) -> u32;
-    #[cfg(feature = "report")]
     fn complexity_report(
         tree: *const u8,
         tree_length: usize,
@@ -100,7 +99,6 @@ pub fn update(tree: &Tree) -> Result<Updated, Refusal> {
     Ok(Updated { recorded: lent.count(2), listing: lent.listing() })
 }
 
-#[cfg(feature = "report")]
 pub fn report(tree: &Tree) -> Result<Vec<u8>, Refusal> {
     Ok(called(complexity_report, tree)?.listing())
 }

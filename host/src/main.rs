@@ -35,10 +35,6 @@ fn run(arguments: &Arguments) -> Result<ExitCode, Refusal> {
     if let Some(root) = &arguments.root {
         std::env::set_current_dir(root).map_err(|e| format!("complexity: cannot enter {}: {e}", root.display()))?;
     }
-    // Before the walk, so that a build without a report says so on any tree.
-    if arguments.mode == Mode::Report && !cfg!(feature = "report") {
-        return Err("complexity: this build has no report, only --check and --update".into());
-    }
     let files = walk::rust_files(Path::new("src"))?;
     if files.is_empty() {
         warn("src/ holds no .rs file");
@@ -51,15 +47,9 @@ fn run(arguments: &Arguments) -> Result<ExitCode, Refusal> {
     }
 }
 
-#[cfg(feature = "report")]
 fn report(tree: &Tree) -> Result<ExitCode, Refusal> {
     print(&calls::report(tree)?)?;
     Ok(ExitCode::SUCCESS)
-}
-
-#[cfg(not(feature = "report"))]
-fn report(_: &Tree) -> Result<ExitCode, Refusal> {
-    unreachable!("refused before the walk")
 }
 
 fn check(tree: &Tree, file: &Path) -> Result<ExitCode, Refusal> {
