@@ -84,7 +84,7 @@ fn scan_text(s: &[u8], number: usize, place: usize, lent: &mut [u8], done: usize
         × (now (lent .exit) ≡ putRecords done (recordsFor number place (functions (now (s .entry)))) (now (lent .entry)))
         ⌝ }
 {
-    let mut c = source::start();
+    let mut c = source::start(s);
     let mut n = done;
     loop {
         let step = c.next(s);

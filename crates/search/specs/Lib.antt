@@ -1,2 +1,3 @@
--- A place as the code tells it, and what a search in vain tells.
+-- A place as the code tells it, what a search in vain tells, and what stands behind the last closing bracket.
+pub mod EndLaws
 pub mod Place

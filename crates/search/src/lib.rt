@@ -7,11 +7,11 @@ ghost use mathlib.Core.List.{_∷_};
 ghost use Prim.Native.Nat.{_+_, _≤_, _<_};
 ghost use lib.ListN.{length, getD, drop};
 ghost use Rattle.text_rules.specs.Bytes.{ascii};
-ghost use Rattle.text_rules.specs.Classes.{isSpace, isWord};
+ghost use Rattle.text_rules.specs.Classes.{braceClose, braceOpen, isSpace, isWord, roundClose, roundOpen};
 ghost use Rattle.text_rules.specs.Search.{countAfter, find, run, startsWith};
 ghost use Rattle.source_rules.specs.Brackets.{partner};
 ghost use Rattle.source_rules.specs.Finding.{angleAfter, bodyAt, flat, isFn};
-ghost use Rattle.search.specs.Place.{Passed, Vain, placeOf};
+ghost use Rattle.search.specs.Place.{Absent, Ended, Passed, Vain, placeOf};
 
 // A place in a text, if there is one.
 pub enum Place {
@@ -34,7 +34,7 @@ pub fn find(s: &[u8], x: u8, from: usize) -> Place
 }
 
 // The partner of an opening bracket that stands before `from`.
-pub fn matching_delim(s: &[u8], opening: u8, closing: u8, from: usize) -> Place
+fn matching_delim(s: &[u8], opening: u8, closing: u8, from: usize) -> Place
     requires { ⌜ opening ≢ closing ⌝ }
     ensures { λ r. ⌜ placeOf r ≡ partner opening closing 0 from (drop from (now (s .entry))) ⌝ }
 {
@@ -53,6 +53,59 @@ pub fn matching_delim(s: &[u8], opening: u8, closing: u8, from: usize) -> Place
         }
     }
     Place::Nowhere
+}
+
+// The place behind the last `x`: none stands from there on.
+fn behind_last(s: &[u8], x: u8) -> usize
+    requires { ⌜ x ≢ 0 ⌝ }
+    ensures { λ r. ⌜ Absent x (now (s .entry)) r ⌝ }
+{
+    let mut at = s.len();
+    while 0 < at {
+        if s[at - 1] == x {
+            return at;
+        }
+        at -= 1;
+    }
+    at
+}
+
+// The places behind the last `)` and behind the last `}` of a text.
+pub struct Ends {
+    pub round: usize,
+    pub brace: usize,
+}
+
+pub fn last_ends(s: &[u8]) -> Ends
+    ensures { λ r. ⌜ Ended (now (s .entry)) r ⌝ }
+{
+    Ends {
+        round: behind_last(s, b')'),
+        brace: behind_last(s, b'}'),
+    }
+}
+
+// The partner of a `(` that stands before `from`. Behind the last `)` nothing is sought, so that a text of many open brackets is not read to
+// its end for each.
+pub fn round_partner(s: &[u8], from: usize, e: Ends) -> Place
+    requires { ⌜ Ended (now s) e ⌝ }
+    ensures { λ r. ⌜ placeOf r ≡ partner roundOpen roundClose 0 from (drop from (now (s .entry))) ⌝ }
+{
+    if e.round <= from {
+        return Place::Nowhere;
+    }
+    matching_delim(s, b'(', b')', from)
+}
+
+// The partner of a `{` that stands before `from`.
+pub fn brace_partner(s: &[u8], from: usize, e: Ends) -> Place
+    requires { ⌜ Ended (now s) e ⌝ }
+    ensures { λ r. ⌜ placeOf r ≡ partner braceOpen braceClose 0 from (drop from (now (s .entry))) ⌝ }
+{
+    if e.brace <= from {
+        return Place::Nowhere;
+    }
+    matching_delim(s, b'{', b'}', from)
 }
 
 // Angle depth and square depth are 0. Square depth may go negative, so what was opened and what was closed is counted apart.

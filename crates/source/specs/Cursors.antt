@@ -13,7 +13,7 @@ use Rattle.source_rules.specs.PlaceLaws.{blockFrom, placesAt}
 use Rattle.source_rules.specs.TextScan.{TextFun, functionsFrom, measured}
 use Rattle.source_rules.specs.TextScanLaws.{Fine}
 use Rattle.source_rules.specs.TextScanSteps.{byteBefore}
-use Rattle.search.specs.Place.{Vain}
+use Rattle.search.specs.Place.{Ended, Vain}
 use Rattle.source.specs.declared.Brackets.{Brackets}
 use Rattle.source.specs.declared.Cursor.{Cursor}
 use Rattle.source.specs.declared.Found.{Found}
@@ -64,6 +64,7 @@ pub record Ready (s : List ℕ) (c : Cursor) : Type 0 where
   pub no-span : Spanless s (c .at) (c .spanless)
   pub no-function : Barren s (c .«barren_from») (c .«barren_to»)
   pub vain : Vain s (c .bare)
+  pub ended : Ended s (c .ends)
 
 -- a function is found, and the cursor behind it has the others. The function's numbers are at most the text's length
 pub record Yields (s : List ℕ) (c : Cursor) (f : Found) (d : Cursor) : Type 0 where

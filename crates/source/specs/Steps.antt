@@ -70,7 +70,7 @@ span-new left m n z e = rw z e
 -- past a byte, without a function and with one
 module _ (s : List ℕ) (c : Cursor) (h : c .at < length s) (ready : Ready s c) (span : Span) (here : SpanAt s c span) (line : ℕ) (e : line ≡ countAfter lf (getD s (c .at) 0) (c .line)) where
   abbrev past : (resume from to : ℕ) → Bare → Cursor
-  past resume from to v = record { at = c .at + 1; line = line; «span_end» = span .end; resume = resume; spanless = span .spanless; «barren_from» = from; «barren_to» = to; bare = v }
+  past resume from to v = record { at = c .at + 1; line = line; «span_end» = span .end; resume = resume; spanless = span .spanless; «barren_from» = from; «barren_to» = to; bare = v; ends = c .ends }
 
   past-ready : (resume from to : ℕ) (v : Bare) → Barren s from to → Vain s v → Ready s (past resume from to v)
   unfolding Spanless
@@ -83,6 +83,7 @@ module _ (s : List ℕ) (c : Cursor) (h : c .at < length s) (ready : Ready s c) 
         no-span = λ x i k. here .no-span x (omega arith) k;
         no-function = gone;
         vain = vain;
+        ended = ready .ended;
       }
 
   pub passes : sought (span .end - c .at) (c .resume - c .at) (byteBefore s (c .at)) (drop (c .at) s) ≡ none → (from to : ℕ) (v : Bare) → Barren s from to → Vain s v → Passes s c (past (c .resume) from to v)
@@ -120,7 +121,7 @@ module _ (s : List ℕ) (c : Cursor) (h : c .at < length s) (ready : Ready s c) 
 -- past a byte that begins neither a mark nor a word fn: only the place and the line change
 pub quiet : (s : List ℕ) (c : Cursor) → c .at < length s → Ready s c → (getD s (c .at) 0 ≢ hash) × (getD s (c .at) 0 ≢ 102) → (line : ℕ) → line ≡ countAfter lf (getD s (c .at) 0) (c .line)
     → Passes s c
-    (record { at = c .at + 1; line = line; «span_end» = c .«span_end»; resume = c .resume; spanless = c .spanless; «barren_from» = c .«barren_from»; «barren_to» = c .«barren_to»; bare = c .bare })
+    (record { at = c .at + 1; line = line; «span_end» = c .«span_end»; resume = c .resume; spanless = c .spanless; «barren_from» = c .«barren_from»; «barren_to» = c .«barren_to»; bare = c .bare; ends = c .ends })
 quiet s c h ready (m, n) line e =
     let span : Span = record { end = c .«span_end»; spanless = c .spanless } in
     let here : SpanAt s c span = record { left = span-none (c .«span_end» - c .at) _ (no-hash s (c .at) h m); no-span = ready .no-span } in

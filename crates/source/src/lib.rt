@@ -2,15 +2,15 @@
 // The text is gone through byte by byte, bodies and test spans included: a test span may begin inside a body and reach past it, so no body is
 // jumped over.
 use search::Bare;
+use search::Ends;
 use search::Place;
 ghost use mathlib.Core.Path.{_≡_};
 ghost use mathlib.Core.Logic.{_≢_};
 ghost use mathlib.Core.Bool.{true};
-ghost use mathlib.Core.List.{List};
-ghost use Prim.Native.Nat.{ℕ, _+_, _≤_, _<_};
+ghost use Prim.Native.Nat.{_+_, _≤_, _<_};
 ghost use lib.ListN.{length};
 ghost use Rattle.text_rules.specs.Classes.{hash};
-ghost use Rattle.search.specs.Place.{Vain};
+ghost use Rattle.search.specs.Place.{Ended, Vain};
 ghost use Rattle.source_rules.specs.TextScan.{functions};
 ghost use Rattle.source.specs.Cursors.{Barren, Closed, FoundAt, Measures, Ready, Signed, SpanAt, Stepped, Turned, remaining};
 
@@ -28,6 +28,8 @@ pub struct Cursor {
     pub barren_from: usize,
     pub barren_to: usize,
     pub bare: Bare,
+    // where the text's last closing brackets stand
+    pub ends: Ends,
 }
 
 // A function: where its name stands in the text, and what is measured.
@@ -81,15 +83,15 @@ enum Turn {
 }
 
 // The brackets after a name that ends at `to`.
-fn signature_at(s: &[u8], to: usize, v: Bare) -> Signature
-    requires { ⌜ Vain (now s) v ⌝ }
+fn signature_at(s: &[u8], to: usize, v: Bare, e: Ends) -> Signature
+    requires { ⌜ Vain (now s) v × Ended (now s) e ⌝ }
     ensures { λ r. ⌜ Signed (now (s .entry)) to r ⌝ }
 {
     let Place::At(opened) = search::find(s, b'(', to) else {
         return Signature::Broken(s.len(), v);
     };
     let inside = opened + 1;
-    let Place::At(closed) = search::matching_delim(s, b'(', b')', inside) else {
+    let Place::At(closed) = search::round_partner(s, inside, e) else {
         return Signature::Broken(inside, v);
     };
     let sought = search::body_after(s, closed + 1, v);
@@ -98,7 +100,7 @@ fn signature_at(s: &[u8], to: usize, v: Bare) -> Signature
     let Place::At(body) = place else {
         return Signature::Broken(inside, bare);
     };
-    let Place::At(end) = search::matching_delim(s, b'{', b'}', body + 1) else {
+    let Place::At(end) = search::brace_partner(s, body + 1, e) else {
         return Signature::Broken(inside, bare);
     };
     Signature::Whole(
@@ -147,8 +149,9 @@ fn is_quiet(b: u8) -> bool
     true
 }
 
-pub fn start() -> Cursor
-    ensures { λ r. ⌜ ((s : List ℕ) → Ready s r × (remaining s r ≡ functions s)) ⌝ }
+// The start of a text.
+pub fn start(s: &[u8]) -> Cursor
+    ensures { λ r. ⌜ Ready (now (s .entry)) r × (remaining (now (s .entry)) r ≡ functions (now (s .entry))) ⌝ }
 {
     Cursor {
         at: 0,
@@ -165,13 +168,14 @@ pub fn start() -> Cursor
             opened: 0,
             closed: 0,
         },
+        ends: search::last_ends(s),
     }
 }
 
 impl Cursor {
     // The function whose `fn` stands at the next byte.
     fn measure(self, s: &[u8]) -> Measure
-        requires { ⌜ (self .at + 2 ≤ length (now s)) × Barren (now s) (self .«barren_from») (self .«barren_to») × Vain (now s) (self .bare) ⌝ }
+        requires { ⌜ (self .at + 2 ≤ length (now s)) × Barren (now s) (self .«barren_from») (self .«barren_to») × Vain (now s) (self .bare) × Ended (now s) (self .ends) ⌝ }
         ensures { λ r. ⌜ Measures (now (s .entry)) self r ⌝ }
     {
         let from = search::space_end(s, self.at + 2);
@@ -186,7 +190,7 @@ impl Cursor {
                 return Measure::Nothing(self.barren_from, self.barren_to, v);
             }
         }
-        let g = signature_at(s, to, v);
+        let g = signature_at(s, to, v, self.ends);
         match g {
             Signature::Broken(n, w) => Measure::Nothing(to, n, w),
             Signature::Whole(b, w) => {
@@ -222,7 +226,7 @@ impl Cursor {
             span.spanless = s.len();
             return span;
         };
-        let Place::At(closed) = search::matching_delim(s, b'{', b'}', opened + 1) else {
+        let Place::At(closed) = search::brace_partner(s, opened + 1, self.ends) else {
             span.spanless = opened + 1;
             return span;
         };

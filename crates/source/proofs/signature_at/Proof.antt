@@ -23,7 +23,7 @@ returns c =
     let b = f .before .before in
     let a = b .args in
     let e : find roundOpen (a .to) (drop (a .to) (a .s .now)) ≡ none = sym (f .find .ensures) ∙ ap placeOf (c .enum-told .given .1) in
-    (record { none-here = λ from. no-list (a .s .now) (a .to) e from (a .to) (omega arith); no-function = λ from x h k. no-list (a .s .now) (a .to) e from x h }, b .pre)
+    (record { none-here = λ from. no-list (a .s .now) (a .to) e from (a .to) (omega arith); no-function = λ from x h k. no-list (a .s .now) (a .to) e from x h }, b .pre .0)
 
 add-inside : tie.Need-add-inside
 add-inside c =
@@ -39,9 +39,9 @@ returns-2 c =
     let a = k₁ .before .before .before .before .before .args in
     let opened = k₁ .before .opened .given .0 .0 in
     let e₁ : find roundOpen (a .to) (drop (a .to) (a .s .now)) ≡ some opened = sym (k₁ .before .before .before .find .ensures) ∙ ap placeOf (k₁ .before .opened .given .1) in
-    let e : partner roundOpen roundClose 0 (opened + 1) (drop (opened + 1) (a .s .now)) ≡ none = sym (c .before .before .matching-delim .ensures) ∙ ap placeOf (c .enum-told2 .given .1) in
+    let e : partner roundOpen roundClose 0 (opened + 1) (drop (opened + 1) (a .s .now)) ≡ none = sym (c .before .before .round-partner .ensures) ∙ ap placeOf (c .enum-told2 .given .1) in
     let gone = open-list (a .s .now) (a .to) opened e₁ e in
-    (record { none-here = λ from. gone from (a .to) (omega arith) (omega (arith, find-place (a .s .now) (a .to) opened roundOpen e₁)); no-function = gone }, k₁ .before .before .before .before .before .pre)
+    (record { none-here = λ from. gone from (a .to) (omega arith) (omega (arith, find-place (a .s .now) (a .to) opened roundOpen e₁)); no-function = gone }, k₁ .before .before .before .before .before .pre .0)
 
 add-body-after : tie.Need-add-body-after
 add-body-after c =
@@ -50,7 +50,7 @@ add-body-after c =
     let opened = k₁ .before .opened .given .0 .0 in
     let e₁ : find roundOpen (a .to) (drop (a .to) (a .s .now)) ≡ some opened = sym (k₁ .before .before .before .find .ensures) ∙ ap placeOf (k₁ .before .opened .given .1) in
     let closed = c .before .closed .given .0 .0 in
-    let e₂ : partner roundOpen roundClose 0 (opened + 1) (drop (opened + 1) (a .s .now)) ≡ some closed = sym (c .before .before .before .matching-delim .ensures) ∙ ap placeOf (c .before .closed .given .1) in
+    let e₂ : partner roundOpen roundClose 0 (opened + 1) (drop (opened + 1) (a .s .now)) ≡ some closed = sym (c .before .before .before .round-partner .ensures) ∙ ap placeOf (c .before .closed .given .1) in
     omega (arith, partner-place (a .s .now) (opened + 1) closed roundOpen roundClose e₂)
 
 body-after-requires : tie.Need-body-after-requires
@@ -60,8 +60,8 @@ body-after-requires c κs =
     let opened = k₁ .before .opened .given .0 .0 in
     let e₁ : find roundOpen (a .to) (drop (a .to) (a .s .now)) ≡ some opened = sym (k₁ .before .before .before .find .ensures) ∙ ap placeOf (k₁ .before .opened .given .1) in
     let closed = c .before .closed .given .0 .0 in
-    let e₂ : partner roundOpen roundClose 0 (opened + 1) (drop (opened + 1) (a .s .now)) ≡ some closed = sym (c .before .before .before .matching-delim .ensures) ∙ ap placeOf (c .before .closed .given .1) in
-    (omega (arith, partner-place (a .s .now) (opened + 1) closed roundOpen roundClose e₂), k₁ .before .before .before .before .before .pre)
+    let e₂ : partner roundOpen roundClose 0 (opened + 1) (drop (opened + 1) (a .s .now)) ≡ some closed = sym (c .before .before .before .round-partner .ensures) ∙ ap placeOf (c .before .closed .given .1) in
+    (omega (arith, partner-place (a .s .now) (opened + 1) closed roundOpen roundClose e₂), k₁ .before .before .before .before .before .pre .0)
 
 returns-3 : tie.Need-returns-3
 unfolding Barren
@@ -72,20 +72,20 @@ returns-3 c =
     let opened = k₁ .before .opened .given .0 .0 in
     let e₁ : find roundOpen (a .to) (drop (a .to) (a .s .now)) ≡ some opened = sym (k₁ .before .before .before .find .ensures) ∙ ap placeOf (k₁ .before .opened .given .1) in
     let closed = k₂ .before .closed .given .0 .0 in
-    let e₂ : partner roundOpen roundClose 0 (opened + 1) (drop (opened + 1) (a .s .now)) ≡ some closed = sym (k₂ .before .before .before .matching-delim .ensures) ∙ ap placeOf (k₂ .before .closed .given .1) in
+    let e₂ : partner roundOpen roundClose 0 (opened + 1) (drop (opened + 1) (a .s .now)) ≡ some closed = sym (k₂ .before .before .before .round-partner .ensures) ∙ ap placeOf (k₂ .before .closed .given .1) in
     let e : bodyAt 0 0 0 (closed + 1) (drop (closed + 1) (a .s .now)) ≡ none = sym (c .before .before .before .body-after .ensures .0) ∙ ap placeOf (c .enum-told3 .given .1) in
     let gone = no-body (a .s .now) (a .to) opened e₁ closed e₂ e in
     (record { none-here = λ from. gone from (a .to) (omega arith) (omega (arith, find-place (a .s .now) (a .to) opened roundOpen e₁)); no-function = gone }, c .before .before .before .body-after .ensures .1)
 
-add-matching-delim : tie.Need-add-matching-delim
-add-matching-delim c =
+add-brace-partner : tie.Need-add-brace-partner
+add-brace-partner c =
     let k₂ = c .before .before .before .before .before in
     let k₁ = k₂ .before .before .before .before in
     let a = k₁ .before .before .before .before .before .args in
     let opened = k₁ .before .opened .given .0 .0 in
     let e₁ : find roundOpen (a .to) (drop (a .to) (a .s .now)) ≡ some opened = sym (k₁ .before .before .before .find .ensures) ∙ ap placeOf (k₁ .before .opened .given .1) in
     let closed = k₂ .before .closed .given .0 .0 in
-    let e₂ : partner roundOpen roundClose 0 (opened + 1) (drop (opened + 1) (a .s .now)) ≡ some closed = sym (k₂ .before .before .before .matching-delim .ensures) ∙ ap placeOf (k₂ .before .closed .given .1) in
+    let e₂ : partner roundOpen roundClose 0 (opened + 1) (drop (opened + 1) (a .s .now)) ≡ some closed = sym (k₂ .before .before .before .round-partner .ensures) ∙ ap placeOf (k₂ .before .closed .given .1) in
     let body = c .before .place .given .0 .0 in
     let e₃ : bodyAt 0 0 0 (closed + 1) (drop (closed + 1) (a .s .now)) ≡ some body = sym (c .before .before .before .before .body-after .ensures .0) ∙ ap placeOf (c .before .place .given .1) in
     omega (arith, body-place (a .s .now) (closed + 1) body e₃)
@@ -100,10 +100,10 @@ returns-4 c =
     let opened = k₁ .before .opened .given .0 .0 in
     let e₁ : find roundOpen (a .to) (drop (a .to) (a .s .now)) ≡ some opened = sym (k₁ .before .before .before .find .ensures) ∙ ap placeOf (k₁ .before .opened .given .1) in
     let closed = k₂ .before .closed .given .0 .0 in
-    let e₂ : partner roundOpen roundClose 0 (opened + 1) (drop (opened + 1) (a .s .now)) ≡ some closed = sym (k₂ .before .before .before .matching-delim .ensures) ∙ ap placeOf (k₂ .before .closed .given .1) in
+    let e₂ : partner roundOpen roundClose 0 (opened + 1) (drop (opened + 1) (a .s .now)) ≡ some closed = sym (k₂ .before .before .before .round-partner .ensures) ∙ ap placeOf (k₂ .before .closed .given .1) in
     let body = k₃ .before .place .given .0 .0 in
     let e₃ : bodyAt 0 0 0 (closed + 1) (drop (closed + 1) (a .s .now)) ≡ some body = sym (k₃ .before .before .before .before .body-after .ensures .0) ∙ ap placeOf (k₃ .before .place .given .1) in
-    let e : partner braceOpen braceClose 0 (body + 1) (drop (body + 1) (a .s .now)) ≡ none = sym (c .before .before .matching-delim2 .ensures) ∙ ap placeOf (c .enum-told4 .given .1) in
+    let e : partner braceOpen braceClose 0 (body + 1) (drop (body + 1) (a .s .now)) ≡ none = sym (c .before .before .brace-partner .ensures) ∙ ap placeOf (c .enum-told4 .given .1) in
     let gone = open-body (a .s .now) (a .to) opened e₁ closed e₂ body e₃ e in
     (record { none-here = λ from. gone from (a .to) (omega arith) (omega (arith, find-place (a .s .now) (a .to) opened roundOpen e₁)); no-function = gone }, k₃ .before .before .before .before .body-after .ensures .1)
 
@@ -116,11 +116,11 @@ returns-5 c =
     let opened = k₁ .before .opened .given .0 .0 in
     let e₁ : find roundOpen (a .to) (drop (a .to) (a .s .now)) ≡ some opened = sym (k₁ .before .before .before .find .ensures) ∙ ap placeOf (k₁ .before .opened .given .1) in
     let closed = k₂ .before .closed .given .0 .0 in
-    let e₂ : partner roundOpen roundClose 0 (opened + 1) (drop (opened + 1) (a .s .now)) ≡ some closed = sym (k₂ .before .before .before .matching-delim .ensures) ∙ ap placeOf (k₂ .before .closed .given .1) in
+    let e₂ : partner roundOpen roundClose 0 (opened + 1) (drop (opened + 1) (a .s .now)) ≡ some closed = sym (k₂ .before .before .before .round-partner .ensures) ∙ ap placeOf (k₂ .before .closed .given .1) in
     let body = k₃ .before .place .given .0 .0 in
     let e₃ : bodyAt 0 0 0 (closed + 1) (drop (closed + 1) (a .s .now)) ≡ some body = sym (k₃ .before .before .before .before .body-after .ensures .0) ∙ ap placeOf (k₃ .before .place .given .1) in
     let end = c .before .end .given .0 .0 in
-    let e₄ : partner braceOpen braceClose 0 (body + 1) (drop (body + 1) (a .s .now)) ≡ some end = sym (c .before .before .before .matching-delim2 .ensures) ∙ ap placeOf (c .before .end .given .1) in
+    let e₄ : partner braceOpen braceClose 0 (body + 1) (drop (body + 1) (a .s .now)) ≡ some end = sym (c .before .before .before .brace-partner .ensures) ∙ ap placeOf (c .before .end .given .1) in
     let i₁ = find-place (a .s .now) (a .to) opened roundOpen e₁ in
     let i₂ = partner-place (a .s .now) (opened + 1) closed roundOpen roundClose e₂ in
     let i₃ = body-place (a .s .now) (closed + 1) body e₃ in
@@ -147,7 +147,7 @@ signature-at-spec =
     (λ c. search needs)
     (λ c. search needs)
     returns-3
-    add-matching-delim
+    add-brace-partner
     (λ c κs. search needs)
     (λ c. search needs)
     (λ c. search needs)

@@ -53,8 +53,8 @@ returns-5 c =
     let gone = no-brace (b .args .s .now) at e in
     record { left = span-none (b .args .self .«span_end» - at) _ (no-span (b .args .s .now) at (b .pre .0) (gone at (omega arith))); no-span = λ x h k. gone x h }
 
-add-matching-delim : tie.Need-add-matching-delim
-add-matching-delim c =
+add-brace-partner : tie.Need-add-brace-partner
+add-brace-partner c =
     let f = c .before .before .before in
     let b = f .before .before .before .before .before .before .before .before .before .before in
     omega (arith, find-place (b .args .s .now) (b .args .self .at) _ braceOpen (sym (f .find .ensures) ∙ ap placeOf (c .before .opened .given .1)))
@@ -75,7 +75,7 @@ returns-6 c =
     let at = b .args .self .at in
     let opened = k .before .opened .given .0 .0 in
     let e₁ : find braceOpen at (drop at (b .args .s .now)) ≡ some opened = sym (f .find .ensures) ∙ ap placeOf (k .before .opened .given .1) in
-    let e₂ : partner braceOpen braceClose 0 (opened + 1) (drop (opened + 1) (b .args .s .now)) ≡ none = sym (c .before .before .matching-delim .ensures) ∙ ap placeOf (c .enum-told2 .given .1) in
+    let e₂ : partner braceOpen braceClose 0 (opened + 1) (drop (opened + 1) (b .args .s .now)) ≡ none = sym (c .before .before .brace-partner .ensures) ∙ ap placeOf (c .enum-told2 .given .1) in
     let gone = open-block (b .args .s .now) at opened e₁ e₂ in
     let here = gone at (omega arith) (omega (arith, find-place (b .args .s .now) at opened braceOpen e₁)) in
     record { left = span-none (b .args .self .«span_end» - at) _ (no-span (b .args .s .now) at (b .pre .0) here); no-span = gone }
@@ -90,7 +90,7 @@ returns-7 c =
     let opened = k .before .opened .given .0 .0 in
     let closed = c .before .closed .given .0 .0 in
     let e₁ : find braceOpen at (drop at (b .args .s .now)) ≡ some opened = sym (f .find .ensures) ∙ ap placeOf (k .before .opened .given .1) in
-    let e₂ : partner braceOpen braceClose 0 (opened + 1) (drop (opened + 1) (b .args .s .now)) ≡ some closed = sym (c .before .before .before .matching-delim .ensures) ∙ ap placeOf (c .before .closed .given .1) in
+    let e₂ : partner braceOpen braceClose 0 (opened + 1) (drop (opened + 1) (b .args .s .now)) ≡ some closed = sym (c .before .before .before .brace-partner .ensures) ∙ ap placeOf (c .before .closed .given .1) in
     let marked : startsWith (ascii "#[cfg(test)]") (drop at (b .args .s .now)) ≡ true = sym (m .test-mark .ensures) ∙ not-false _ (f .before .if4 .left) in
     let z : b .args .self .«span_end» - at ≡ 0 = omega arith in
     record {
@@ -112,7 +112,7 @@ span-at-spec =
     (λ c. search needs)
     (λ c. search needs)
     returns-5
-    add-matching-delim
+    add-brace-partner
     (λ c κs. search needs)
     (λ c. search needs)
     (λ c. search needs)

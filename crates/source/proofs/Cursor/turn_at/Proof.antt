@@ -64,7 +64,7 @@ measure-requires : tie.Need-measure-requires
 measure-requires c κs =
     let w = c .before in
     let b = w .before .before .before .before .before .before .before .before .before .before in
-    (fn-inside (b .args .s .now) (b .args .self .at) (b .pre .0) _ (sym (w .word-at .ensures) ∙ not-false _ (c .if4 .left)), b .pre .1 .no-function, b .pre .1 .vain)
+    (fn-inside (b .args .s .now) (b .args .self .at) (b .pre .0) _ (sym (w .word-at .ensures) ∙ not-false _ (c .if4 .left)), b .pre .1 .no-function, b .pre .1 .vain, b .pre .1 .ended)
 
 returns-5 : tie.Need-returns-5
 returns-5 c =
