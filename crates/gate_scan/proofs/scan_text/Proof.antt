@@ -35,8 +35,7 @@ abbrev μ-loop : tie.MeasureT-loop
 loop-holds : tie.Need-loop-holds Inv-loop μ-loop
 loop-holds c =
     let a = c .before .before .before .args in
-    let s = now (a .s) in
-    let st = c .start .ensures s in
+    let st = c .start .ensures in
     let whole = st .1 in
     (st .0, refl, ap (λ fs. a .done + length fs) whole, omega arith, ap (λ fs. putRecords (a .done) (recordsFor (a .number) (a .place) fs) (now (a .lent))) whole)
 
