@@ -1,3 +1,3 @@
--- A place as the code tells it, what a search in vain tells, and what stands behind the last closing bracket.
+-- A place as the code tells it, and what searches in vain tell.
 pub mod EndLaws
 pub mod Place

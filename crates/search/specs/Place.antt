@@ -1,17 +1,21 @@
--- A place as the code tells it, what a search for a body that found none tells, and what stands behind the last bracket.
+-- A place as the code tells it, and what searches that found nothing tell.
 use Prim.Native.Nat.{ℕ, _≤_}
 use mathlib.Core.Path.{_≡_}
 use mathlib.Core.Logic.{_≢_}
 use mathlib.Core.Bool.{true}
 use mathlib.Core.List.{List}
 use mathlib.Core.Option.{Option, none, some}
-use lib.ListN.{drop, getD}
-use Rattle.text_rules.specs.Classes.{braceClose, roundClose}
+use lib.ListN.{drop, getD, length}
+use Rattle.text_rules.specs.Classes.{braceClose, braceOpen, roundClose, roundOpen}
+use Rattle.source_rules.specs.Brackets.{partner}
 use Rattle.source_rules.specs.Finding.{bodyAt, flat}
 use Rattle.search.specs.declared.Bare.{Bare}
-use Rattle.search.specs.declared.Ends.{Ends}
+use Rattle.search.specs.declared.Learnt.{Learnt}
+use Rattle.search.specs.declared.Met.{Met}
+use Rattle.search.specs.declared.Met.the-variants.{Partner, Depth}
 use Rattle.search.specs.declared.Place.{Place}
 use Rattle.search.specs.declared.Place.the-variants.{At, Nowhere}
+use Rattle.search.specs.declared.Unclosed.{Unclosed}
 
 abbrev pub placeOf : Place → Option ℕ
 placeOf (At n) = some n
@@ -21,10 +25,16 @@ placeOf Nowhere = none
 unfoldable pub Absent : ℕ → List ℕ → ℕ → Type 0
 Absent x s from = (k : ℕ) → from ≤ k → getD s k 0 ≢ x
 
--- no closing bracket stands from its place on
-pub record Ended (s : List ℕ) (e : Ends) : Type 0 where
-  pub no-round : Absent roundClose s (e .round)
-  pub no-brace : Absent braceClose s (e .brace)
+-- what a search for a partner meets: the partner, or a depth with which it goes on
+abbrev pub Meets : List ℕ → (opening closing from to depth : ℕ) → Met → Type 0
+Meets s opening closing from to depth (Partner p) = partner opening closing depth from (drop from s) ≡ some p
+Meets s opening closing from to depth (Depth d) = (partner opening closing depth from (drop from s) ≡ partner opening closing d to (drop to s)) × (d ≤ to)
+
+-- what is known of brackets that are never closed
+pub record Knows (opening closing : ℕ) (s : List ℕ) (u : Unclosed) : Type 0 where
+  pub no-closing : Absent closing s (u .last)
+  pub none-there : partner opening closing (u .depth) (u .at) (drop (u .at) s) ≡ none
+  pub inside : u .at ≤ length s
 
 -- the search finds no body from its place on, with the counts that it has there
 pub record Vain (s : List ℕ) (v : Bare) : Type 0 where
@@ -38,3 +48,9 @@ pub record Passed (v : Bare) (from : ℕ) : Type 0 where
   pub is-known : v .known ≡ true
   pub stands : v .at ≡ from
   pub level : flat (v .angle) (v .opened) (v .closed) ≡ true
+
+-- what was learnt of a text
+pub record Learned (s : List ℕ) (l : Learnt) : Type 0 where
+  pub vain : Vain s (l .bare)
+  pub rounds-known : Knows roundOpen roundClose s (l .rounds)
+  pub braces-known : Knows braceOpen braceClose s (l .braces)

@@ -4,14 +4,15 @@ ghost use mathlib.Core.Path.{_≡_};
 ghost use mathlib.Core.Logic.{_≢_};
 ghost use mathlib.Core.Bool.{true};
 ghost use mathlib.Core.List.{_∷_};
+ghost use mathlib.Core.Option.{none};
 ghost use Prim.Native.Nat.{_+_, _≤_, _<_};
 ghost use lib.ListN.{length, getD, drop};
 ghost use Rattle.text_rules.specs.Bytes.{ascii};
-ghost use Rattle.text_rules.specs.Classes.{braceClose, braceOpen, isSpace, isWord, roundClose, roundOpen};
+ghost use Rattle.text_rules.specs.Classes.{isSpace, isWord};
 ghost use Rattle.text_rules.specs.Search.{countAfter, find, run, startsWith};
 ghost use Rattle.source_rules.specs.Brackets.{partner};
 ghost use Rattle.source_rules.specs.Finding.{angleAfter, bodyAt, flat, isFn};
-ghost use Rattle.search.specs.Place.{Absent, Ended, Passed, Vain, placeOf};
+ghost use Rattle.search.specs.Place.{Absent, Knows, Learned, Meets, Passed, Vain, placeOf};
 
 // A place in a text, if there is one.
 pub enum Place {
@@ -33,32 +34,10 @@ pub fn find(s: &[u8], x: u8, from: usize) -> Place
     Place::Nowhere
 }
 
-// The partner of an opening bracket that stands before `from`.
-fn matching_delim(s: &[u8], opening: u8, closing: u8, from: usize) -> Place
-    requires { ⌜ opening ≢ closing ⌝ }
-    ensures { λ r. ⌜ placeOf r ≡ partner opening closing 0 from (drop from (now (s .entry))) ⌝ }
-{
-    let mut at = from;
-    let mut depth: usize = 0;
-    while at < s.len() {
-        let b = s[at];
-        at += 1;
-        if b == opening {
-            depth += 1;
-        } else if b == closing {
-            if depth == 0 {
-                return Place::At(at - 1);
-            }
-            depth -= 1;
-        }
-    }
-    Place::Nowhere
-}
-
 // The place behind the last `x`: none stands from there on.
 fn behind_last(s: &[u8], x: u8) -> usize
     requires { ⌜ x ≢ 0 ⌝ }
-    ensures { λ r. ⌜ Absent x (now (s .entry)) r ⌝ }
+    ensures { λ r. ⌜ Absent x (now (s .entry)) r × (r ≤ length (now (s .entry))) ⌝ }
 {
     let mut at = s.len();
     while 0 < at {
@@ -70,42 +49,178 @@ fn behind_last(s: &[u8], x: u8) -> usize
     at
 }
 
-// The places behind the last `)` and behind the last `}` of a text.
-pub struct Ends {
-    pub round: usize,
-    pub brace: usize,
+// What a search for a partner meets up to a place: the partner, or the brackets that are open there.
+enum Met {
+    Partner(usize),
+    Depth(usize),
 }
 
-pub fn last_ends(s: &[u8]) -> Ends
-    ensures { λ r. ⌜ Ended (now (s .entry)) r ⌝ }
+// The partner of a bracket, sought from one place up to another, with so many brackets open inside it.
+fn partner_before(s: &[u8], opening: u8, closing: u8, from: usize, to: usize, depth: usize) -> Met
+    requires { ⌜ (opening ≢ closing) × (from ≤ to) × (to ≤ length (now s)) × (depth ≤ from) ⌝ }
+    ensures { λ r. ⌜ Meets (now (s .entry)) opening closing from to depth r ⌝ }
 {
-    Ends {
-        round: behind_last(s, b')'),
-        brace: behind_last(s, b'}'),
+    let mut at = from;
+    let mut inner = depth;
+    while at < to {
+        let b = s[at];
+        at += 1;
+        if b == opening {
+            inner += 1;
+        } else if b == closing {
+            if inner == 0 {
+                return Met::Partner(at - 1);
+            }
+            inner -= 1;
+        }
+    }
+    Met::Depth(inner)
+}
+
+// How many closing brackets from a place on close nothing that was opened there. A bracket with as many open inside it is never closed.
+fn closings(s: &[u8], opening: u8, closing: u8, from: usize) -> usize
+    requires { ⌜ (opening ≢ closing) × (from ≤ length (now s)) ⌝ }
+    ensures { λ r. ⌜ partner opening closing r from (drop from (now (s .entry))) ≡ none ⌝ }
+{
+    let mut at = from;
+    let mut inner: usize = 0;
+    let mut closed: usize = 0;
+    while at < s.len() {
+        let b = s[at];
+        at += 1;
+        if b == opening {
+            inner += 1;
+        } else if b == closing {
+            if inner == 0 {
+                closed += 1;
+            } else {
+                inner -= 1;
+            }
+        }
+    }
+    closed
+}
+
+// What is known of brackets of one kind that are never closed: no closing one stands from `last` on, and one with `depth` open inside it at the
+// place `at` has no partner.
+pub struct Unclosed {
+    pub last: usize,
+    pub at: usize,
+    pub depth: usize,
+}
+
+// At the start of a text: from the last closing bracket on, none has a partner.
+pub fn known_first(s: &[u8], opening: u8, closing: u8) -> Unclosed
+    requires { ⌜ closing ≢ 0 ⌝ }
+    ensures { λ r. ⌜ Knows opening closing (now (s .entry)) r ⌝ }
+{
+    let last = behind_last(s, closing);
+    Unclosed {
+        last,
+        at: last,
+        depth: 0,
     }
 }
 
-// The partner of a `(` that stands before `from`. Behind the last `)` nothing is sought, so that a text of many open brackets is not read to
-// its end for each.
-pub fn round_partner(s: &[u8], from: usize, e: Ends) -> Place
-    requires { ⌜ Ended (now s) e ⌝ }
-    ensures { λ r. ⌜ placeOf r ≡ partner roundOpen roundClose 0 from (drop from (now (s .entry))) ⌝ }
+// The place that is looked at after a bracket at `from` was found to have no partner: so far on that few such places cover a text, and so near
+// that a search up to it is short.
+fn further(length: usize, from: usize) -> usize
+    requires { ⌜ from ≤ length ⌝ }
+    ensures { λ r. ⌜ (from ≤ r) × (r ≤ length) ⌝ }
 {
-    if e.round <= from {
-        return Place::Nowhere;
+    let reach = 1024 + length / 1024;
+    if length - from <= reach {
+        return length;
     }
-    matching_delim(s, b'(', b')', from)
+    from + reach
 }
 
-// The partner of a `{` that stands before `from`.
-pub fn brace_partner(s: &[u8], from: usize, e: Ends) -> Place
-    requires { ⌜ Ended (now s) e ⌝ }
-    ensures { λ r. ⌜ placeOf r ≡ partner braceOpen braceClose 0 from (drop from (now (s .entry))) ⌝ }
+// What is known after a bracket before `from` was found to have no partner. The text is read to its end again only where the place that is
+// known is too far on, or behind.
+fn looked_further(s: &[u8], opening: u8, closing: u8, from: usize, u: Unclosed) -> Unclosed
+    requires { ⌜ (opening ≢ closing) × (from ≤ length (now s)) × Knows opening closing (now s) u ⌝ }
+    ensures { λ r. ⌜ Knows opening closing (now (s .entry)) r ⌝ }
 {
-    if e.brace <= from {
-        return Place::Nowhere;
+    let at = further(s.len(), from);
+    if from <= u.at {
+        if u.at <= at {
+            return u;
+        }
     }
-    matching_delim(s, b'{', b'}', from)
+    Unclosed {
+        last: u.last,
+        at,
+        depth: closings(s, opening, closing, at),
+    }
+}
+
+// A partner, and what is known after it was sought.
+pub struct Matched {
+    pub place: Place,
+    pub unclosed: Unclosed,
+}
+
+// The partner of a bracket that stands before `from`, sought behind the place that is known, at which so many are open inside it.
+fn partner_behind(
+    s: &[u8],
+    opening: u8,
+    closing: u8,
+    from: usize,
+    depth: usize,
+    u: Unclosed,
+) -> Matched
+    requires { ⌜ (opening ≢ closing) × (from ≤ length (now s)) × (depth ≤ from) × Knows opening closing (now s) u ⌝ }
+    ensures { λ r. ⌜
+        (placeOf (r .place) ≡ partner opening closing depth from (drop from (now (s .entry))))
+        × Knows opening closing (now (s .entry)) (r .unclosed)
+        ⌝ }
+{
+    let met = partner_before(s, opening, closing, from, s.len(), depth);
+    match met {
+        Met::Partner(p) => Matched {
+            place: Place::At(p),
+            unclosed: u,
+        },
+        Met::Depth(d) => Matched {
+            place: Place::Nowhere,
+            unclosed: looked_further(s, opening, closing, from, u),
+        },
+    }
+}
+
+// The partner of an opening bracket that stands before `from`. A text of many brackets that are never closed is not read to its end for each.
+pub fn matching_delim(s: &[u8], opening: u8, closing: u8, from: usize, u: Unclosed) -> Matched
+    requires { ⌜ (opening ≢ closing) × (from ≤ length (now s)) × Knows opening closing (now s) u ⌝ }
+    ensures { λ r. ⌜
+        (placeOf (r .place) ≡ partner opening closing 0 from (drop from (now (s .entry))))
+        × Knows opening closing (now (s .entry)) (r .unclosed)
+        ⌝ }
+{
+    if u.last <= from {
+        return Matched {
+            place: Place::Nowhere,
+            unclosed: u,
+        };
+    }
+    if u.at < from {
+        return partner_behind(s, opening, closing, from, 0, u);
+    }
+    let near = partner_before(s, opening, closing, from, u.at, 0);
+    match near {
+        Met::Partner(p) => Matched {
+            place: Place::At(p),
+            unclosed: u,
+        },
+        Met::Depth(d) => {
+            if u.depth <= d {
+                return Matched {
+                    place: Place::Nowhere,
+                    unclosed: looked_further(s, opening, closing, from, u),
+                };
+            }
+            partner_behind(s, opening, closing, u.at, d, u)
+        }
+    }
 }
 
 // Angle depth and square depth are 0. Square depth may go negative, so what was opened and what was closed is counted apart.
@@ -174,6 +289,30 @@ pub struct Bare {
     pub angle: usize,
     pub opened: usize,
     pub closed: usize,
+}
+
+// What was learnt from searches that found nothing: of bodies, and of brackets that are never closed.
+pub struct Learnt {
+    pub bare: Bare,
+    pub rounds: Unclosed,
+    pub braces: Unclosed,
+}
+
+// At the start of a text.
+pub fn nothing_learnt(s: &[u8]) -> Learnt
+    ensures { λ r. ⌜ Learned (now (s .entry)) r ⌝ }
+{
+    Learnt {
+        bare: Bare {
+            known: false,
+            at: 0,
+            angle: 0,
+            opened: 0,
+            closed: 0,
+        },
+        rounds: known_first(s, b'(', b')'),
+        braces: known_first(s, b'{', b'}'),
+    }
 }
 
 // The same search further on, unless it ended before.

@@ -25,18 +25,18 @@ one-less s x at h n a k i e =
     ]
 
 abbrev Inv-loop : tie.InvT-loop
-Inv-loop s x at₀ at = (at ≤ length s) × Absent x s at
+Inv-loop s x at₀ at = Absent x s at × (at ≤ length s)
 
 abbrev μ-loop : tie.MeasureT-loop
 μ-loop s x at₀ at = at
 
 loop-holds : tie.Need-loop-holds Inv-loop μ-loop
-loop-holds c = (omega arith, past-end (c .args .s .now) (c .args .x) (c .pre))
+loop-holds c = (past-end (c .args .s .now) (c .args .x) (c .pre), omega arith)
 
 loop-again : tie.Need-loop-again Inv-loop μ-loop
 loop-again c =
     let l = c .before .before .before in
-    (omega (arith, l .loop .inv .0), one-less (l .before .args .s .now) (l .before .args .x) (l .loop .at) (omega arith) (c .if1 .left) (l .loop .inv .1))
+    (one-less (l .before .args .s .now) (l .before .args .x) (l .loop .at) (omega arith) (c .if1 .left) (l .loop .inv .0), omega (arith, l .loop .inv .1))
 
 pub behind-last-spec : {M : Type 1} → statement M
 behind-last-spec =
@@ -47,8 +47,8 @@ behind-last-spec =
     loop-holds
     (λ c. omega arith)
     (λ c. omega arith)
-    (λ c. c .before .before .before .loop .inv .1)
+    (λ c. c .before .before .before .loop .inv)
     (λ c. omega arith)
     (λ c. omega arith)
     loop-again
-    (λ c. c .before .loop .inv .1))
+    (λ c. c .before .loop .inv))

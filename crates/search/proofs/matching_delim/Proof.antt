@@ -1,71 +1,66 @@
--- `search::matching_delim` meets its contract: at each turn the partner sought from `at` on, at the depth reached, is the one sought from the
--- start on at depth 0. The depth is at most the place, so that it can be counted.
-use Prim.Native.Nat.{_≤_, _-_, _+_}
-use mathlib.Core.Path.{_≡_, refl, ap, sym, _∙_}
-use mathlib.Core.Option.{some}
+-- `search::matching_delim` meets its contract: behind the last closing bracket there is no partner, and at the place that is known none with as
+-- many open inside it.
+use mathlib.Core.Path.{sym, subst, _∙_}
 use native.Mathlib.Omega.{arith}
-use lib.ListN.{length, drop}
-use Rattle.source_rules.specs.Brackets.{partner}
-use Rattle.source_rules.specs.WalkSteps.{partner-close, partner-end, partner-found, partner-open, partner-other}
+use borrow.Author.Needs.{needs}
+use lib.ListN.{drop}
+use Rattle.search.specs.EndLaws.{no-partner, partner-more}
+use Rattle.search.specs.Place.{Meets}
 use Rattle.search.proofs.matching_delim.Statement.{statement}
 use Rattle.search.proofs.matching_delim.Tie as tie
 
-abbrev Inv-loop : tie.InvT-loop
-Inv-loop s opening closing from at₀ depth₀ at depth = (depth ≤ at) × (partner opening closing depth at (drop at s) ≡ partner opening closing 0 from (drop from s))
-
-abbrev μ-loop : tie.MeasureT-loop
-μ-loop s opening closing from at₀ depth₀ at depth = length s - at
-
-loop-again : tie.Need-loop-again Inv-loop μ-loop
-loop-again c =
-    let l = c .before .before .before in
-    let a = l .before .args in
-    (omega arith, sym (partner-open (a .s .now) (l .loop .at) (omega arith) (a .opening) (a .closing) (l .loop .depth) (l .before .pre) (c .if1 .taken)) ∙ l .loop .inv .1)
-
-returns : tie.Need-returns Inv-loop μ-loop
+returns : tie.Need-returns
 returns c =
-    let l = c .before .before .before .before .before in
-    let a = l .before .args in
-    let e : l .loop .at + 1 - 1 ≡ l .loop .at = omega arith in
-    ap some e ∙ sym (partner-found (a .s .now) (l .loop .at) (omega arith) (a .opening) (a .closing) (l .loop .depth) (c .before .if2 .taken) (c .if3 .taken)) ∙ l .loop .inv .1
+    let b = c .before .before .before in
+    let a = b .args in
+    (sym (no-partner (a .opening) (a .closing) (a .s .now) (a .u .last) (a .from) 0 (b .pre .2 .no-closing) (c .if1 .taken)), b .pre .2)
 
-loop-again-2 : tie.Need-loop-again-2 Inv-loop μ-loop
-loop-again-2 c =
-    let l = c .before .before .before .before .before in
-    let a = l .before .args in (
-      omega arith,
-      sym (partner-close (a .s .now) (l .loop .at) (omega arith) (a .opening) (a .closing) (l .loop .depth) (l .before .pre) (c .before .if2 .taken) (c .if3 .left)) ∙ l .loop .inv .1,
+returns-3 : tie.Need-returns-3
+returns-3 c =
+    let k = c .before .before .before .before in
+    let b = k .before .before .before .before .before .before .before .before in
+    let a = b .args in
+    let e = subst (Meets (a .s .now) (a .opening) (a .closing) (a .from) (a .u .at) 0) (k .near2 .given .1) (k .before .before .partner-before .ensures) in (
+      sym (e .0 ∙ partner-more (a .opening) (a .closing) (drop (a .u .at) (a .s .now)) (a .u .depth) _ (a .u .at) (c .before .if3 .taken) (b .pre .2 .none-there)),
+      c .looked-further .ensures,
     )
 
-loop-again-3 : tie.Need-loop-again-3 Inv-loop μ-loop
-loop-again-3 c =
-    let l = c .before .before .before .before in
-    let a = l .before .args in
-    (omega arith, sym (partner-other (a .s .now) (l .loop .at) (omega arith) (a .opening) (a .closing) (l .loop .depth) (c .before .if1 .left) (c .if2 .left)) ∙ l .loop .inv .1)
+partner-behind-requires-2 : tie.Need-partner-behind-requires-2
+partner-behind-requires-2 c κs =
+    let k = c .before .before .before in
+    let b = k .before .before .before .before .before .before .before .before in
+    let a = b .args in
+    let e = subst (Meets (a .s .now) (a .opening) (a .closing) (a .from) (a .u .at) 0) (k .near2 .given .1) (k .before .before .partner-before .ensures) in
+    (b .pre .0, b .pre .2 .inside, e .1, b .pre .2)
 
-returns-2 : tie.Need-returns-2 Inv-loop μ-loop
-returns-2 c =
-    let l = c .before in
-    let a = l .before .args in
-    sym (partner-end (a .s .now) (l .loop .at) (omega arith) (a .opening) (a .closing) (l .loop .depth)) ∙ l .loop .inv .1
+returns-4 : tie.Need-returns-4
+returns-4 c =
+    let k = c .before in
+    let b = k .before .before .before .before .before .before .before .before in
+    let a = b .args in
+    (sym (subst (Meets (a .s .now) (a .opening) (a .closing) (a .from) (a .u .at) 0) (k .near .given .1) (k .before .before .partner-before .ensures)), b .pre .2)
+
+returns-5 : tie.Need-returns-5
+returns-5 c =
+    let k = c .before .before .before .before in
+    let b = k .before .before .before .before .before .before .before .before in
+    let a = b .args in
+    let e = subst (Meets (a .s .now) (a .opening) (a .closing) (a .from) (a .u .at) 0) (k .near2 .given .1) (k .before .before .partner-before .ensures) in
+    let r = c .partner-behind2 .ensures in
+    (r .0 ∙ sym (e .0), r .1)
 
 pub matching-delim-spec : {M : Type 1} → statement M
 matching-delim-spec =
     tie.close
     (tie.spec
-    Inv-loop
-    μ-loop
-    (λ c. (omega arith, refl))
-    (λ c. omega arith)
-    (λ c. omega arith)
-    (λ c. omega arith)
-    (λ c. omega arith)
-    loop-again
-    (λ c. omega arith)
     returns
-    (λ c. omega arith)
-    (λ c. omega arith)
-    loop-again-2
-    (λ c. omega arith)
-    loop-again-3
-    returns-2)
+    (λ c κs. search needs)
+    (λ c. search needs)
+    (λ c κs. search needs)
+    (λ c. search needs)
+    (λ c. search needs)
+    (λ c κs. search needs)
+    returns-3
+    partner-behind-requires-2
+    returns-4
+    returns-5)
