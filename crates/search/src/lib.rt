@@ -8,7 +8,7 @@ ghost use mathlib.Core.Option.{none};
 ghost use Prim.Native.Nat.{_+_, _≤_, _<_};
 ghost use lib.ListN.{length, getD, drop};
 ghost use Rattle.text_rules.specs.Bytes.{ascii};
-ghost use Rattle.text_rules.specs.Classes.{isSpace, isWord};
+ghost use Rattle.text_rules.specs.Classes.{braceClose, braceOpen, isSpace, isWord, roundClose, roundOpen};
 ghost use Rattle.text_rules.specs.Search.{countAfter, find, run, startsWith};
 ghost use Rattle.source_rules.specs.Brackets.{partner};
 ghost use Rattle.source_rules.specs.Finding.{angleAfter, bodyAt, flat, isFn};
@@ -189,7 +189,7 @@ fn partner_behind(
 }
 
 // The partner of an opening bracket that stands before `from`. A text of many brackets that are never closed is not read to its end for each.
-pub fn matching_delim(s: &[u8], opening: u8, closing: u8, from: usize, u: Unclosed) -> Matched
+fn matching_delim(s: &[u8], opening: u8, closing: u8, from: usize, u: Unclosed) -> Matched
     requires { ⌜ (opening ≢ closing) × (from ≤ length (now s)) × Knows opening closing (now s) u ⌝ }
     ensures { λ r. ⌜
         (placeOf (r .place) ≡ partner opening closing 0 from (drop from (now (s .entry))))
@@ -368,13 +368,13 @@ fn is_bare(v: Bare, from: usize) -> bool
 }
 
 // The brace that opens a body, and the last search that found none.
-pub struct Sought {
-    pub place: Place,
-    pub bare: Bare,
+struct Sought {
+    place: Place,
+    bare: Bare,
 }
 
 // The brace that opens a body. Signatures without a body that follow each other are passed by one search.
-pub fn body_after(s: &[u8], from: usize, v: Bare) -> Sought
+fn body_behind(s: &[u8], from: usize, v: Bare) -> Sought
     requires { ⌜ (from ≤ length (now s)) × Vain (now s) v ⌝ }
     ensures { λ r. ⌜ (placeOf (r .place) ≡ bodyAt 0 0 0 from (drop from (now (s .entry)))) × Vain (now (s .entry)) (r .bare) ⌝ }
 {
@@ -397,6 +397,81 @@ pub fn body_after(s: &[u8], from: usize, v: Bare) -> Sought
                 opened: 0,
                 closed: 0,
             },
+        },
+    }
+}
+
+// A place that was sought, and what was learnt from that.
+pub struct Looked {
+    pub place: Place,
+    pub learnt: Learnt,
+}
+
+// The partner of a `(` that stands before `from`.
+pub fn list_end(s: &[u8], from: usize, v: Learnt) -> Looked
+    requires { ⌜ (from ≤ length (now s)) × Learned (now s) v ⌝ }
+    ensures { λ r. ⌜
+        (placeOf (r .place) ≡ partner roundOpen roundClose 0 from (drop from (now (s .entry))))
+        × Learned (now (s .entry)) (r .learnt)
+        ⌝ }
+{
+    let bare = v.bare;
+    let known = v.rounds;
+    let braces = v.braces;
+    let m = matching_delim(s, b'(', b')', from, known);
+    let place = m.place;
+    let rounds = m.unclosed;
+    Looked {
+        place,
+        learnt: Learnt {
+            bare,
+            rounds,
+            braces,
+        },
+    }
+}
+
+// The partner of a `{` that stands before `from`.
+pub fn block_end(s: &[u8], from: usize, v: Learnt) -> Looked
+    requires { ⌜ (from ≤ length (now s)) × Learned (now s) v ⌝ }
+    ensures { λ r. ⌜
+        (placeOf (r .place) ≡ partner braceOpen braceClose 0 from (drop from (now (s .entry))))
+        × Learned (now (s .entry)) (r .learnt)
+        ⌝ }
+{
+    let bare = v.bare;
+    let rounds = v.rounds;
+    let known = v.braces;
+    let m = matching_delim(s, b'{', b'}', from, known);
+    let place = m.place;
+    let braces = m.unclosed;
+    Looked {
+        place,
+        learnt: Learnt {
+            bare,
+            rounds,
+            braces,
+        },
+    }
+}
+
+// The brace that opens a body, behind a list that ends before `from`.
+pub fn body_after(s: &[u8], from: usize, v: Learnt) -> Looked
+    requires { ⌜ (from ≤ length (now s)) × Learned (now s) v ⌝ }
+    ensures { λ r. ⌜ (placeOf (r .place) ≡ bodyAt 0 0 0 from (drop from (now (s .entry)))) × Learned (now (s .entry)) (r .learnt) ⌝ }
+{
+    let known = v.bare;
+    let rounds = v.rounds;
+    let braces = v.braces;
+    let found = body_behind(s, from, known);
+    let place = found.place;
+    let bare = found.bare;
+    Looked {
+        place,
+        learnt: Learnt {
+            bare,
+            rounds,
+            braces,
         },
     }
 }

@@ -13,7 +13,7 @@ use Rattle.source_rules.specs.PlaceLaws.{blockFrom, placesAt}
 use Rattle.source_rules.specs.TextScan.{TextFun, functionsFrom, measured}
 use Rattle.source_rules.specs.TextScanLaws.{Fine}
 use Rattle.source_rules.specs.TextScanSteps.{byteBefore}
-use Rattle.search.specs.Place.{Ended, Vain}
+use Rattle.search.specs.Place.{Learned}
 use Rattle.source.specs.declared.Brackets.{Brackets}
 use Rattle.source.specs.declared.Cursor.{Cursor}
 use Rattle.source.specs.declared.Found.{Found}
@@ -63,8 +63,7 @@ pub record Ready (s : List ℕ) (c : Cursor) : Type 0 where
   pub line-most : c .line ≤ c .at + 1
   pub no-span : Spanless s (c .at) (c .spanless)
   pub no-function : Barren s (c .«barren_from») (c .«barren_to»)
-  pub vain : Vain s (c .bare)
-  pub ended : Ended s (c .ends)
+  pub learned : Learned s (c .learnt)
 
 -- a function is found, and the cursor behind it has the others. The function's numbers are at most the text's length
 pub record Yields (s : List ℕ) (c : Cursor) (f : Found) (d : Cursor) : Type 0 where
@@ -96,6 +95,7 @@ Turned s c (Past d) = Passes s c d
 pub record SpanAt (s : List ℕ) (c : Cursor) (r : Span) : Type 0 where
   pub left : r .end - c .at ≡ (c .«span_end» - c .at) orElse spanLength (drop (c .at) s)
   pub no-span : Spanless s (c .at) (r .spanless)
+  pub learned : Learned s (r .learnt)
 
 -- the brackets after a name that ends at a place
 pub record Closed (s : List ℕ) (to : ℕ) (b : Brackets) : Type 0 where
@@ -111,8 +111,8 @@ pub record Missing (s : List ℕ) (to n : ℕ) : Type 0 where
   pub no-function : Barren s to n
 
 abbrev pub Signed : List ℕ → ℕ → Signature → Type 0
-Signed s to (Whole b v) = Closed s to b × Vain s v
-Signed s to (Broken n v) = Missing s to n × Vain s v
+Signed s to (Whole b v) = Closed s to b × Learned s v
+Signed s to (Broken n v) = Missing s to n × Learned s v
 
 -- what is measured of a function whose name and brackets are given
 pub record FoundAt (s : List ℕ) (line from to : ℕ) (b : Brackets) (f : Found) : Type 0 where
@@ -137,5 +137,5 @@ pub record NoneAt (s : List ℕ) (at from to : ℕ) : Type 0 where
   pub no-function : Barren s from to
 
 abbrev pub Measures : List ℕ → Cursor → Measure → Type 0
-Measures s c (Counted f end v) = MeasuredAt s (c .at) (c .line) f end × Vain s v
-Measures s c (Nothing from to v) = NoneAt s (c .at) from to × Vain s v
+Measures s c (Counted f end v) = MeasuredAt s (c .at) (c .line) f end × Learned s v
+Measures s c (Nothing from to v) = NoneAt s (c .at) from to × Learned s v

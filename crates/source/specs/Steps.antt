@@ -21,8 +21,8 @@ use Rattle.source_rules.specs.TextScan.{TextFun, functionsFrom, measured, sough
 use Rattle.source_rules.specs.TextScanLaws.{Fine, Here, fine}
 use Rattle.source_rules.specs.TextScanSteps.{byteBefore, function-at, functions-past, name-from, name-to, no-function, no-hash, other-byte}
 use Rattle.source_rules.specs.WalkSteps.{functions-end, functions-some, sought-no-word}
-use Rattle.search.specs.Place.{Vain}
-use Rattle.search.specs.declared.Bare.{Bare}
+use Rattle.search.specs.Place.{Learned}
+use Rattle.search.specs.declared.Learnt.{Learnt}
 use Rattle.source.specs.Cursors.{Barren, Closed, FoundAt, MeasuredAt, Passes, Ready, SpanAt, Spanless, Yields, remaining, remainingAt, textFun}
 use Rattle.source.specs.declared.Brackets.{Brackets}
 use Rattle.source.specs.declared.Cursor.{Cursor}
@@ -69,12 +69,12 @@ span-new left m n z e = rw z e
 
 -- past a byte, without a function and with one
 module _ (s : List ℕ) (c : Cursor) (h : c .at < length s) (ready : Ready s c) (span : Span) (here : SpanAt s c span) (line : ℕ) (e : line ≡ countAfter lf (getD s (c .at) 0) (c .line)) where
-  abbrev past : (resume from to : ℕ) → Bare → Cursor
-  past resume from to v = record { at = c .at + 1; line = line; «span_end» = span .end; resume = resume; spanless = span .spanless; «barren_from» = from; «barren_to» = to; bare = v; ends = c .ends }
+  abbrev past : (resume from to : ℕ) → Learnt → Cursor
+  past resume from to v = record { at = c .at + 1; line = line; «span_end» = span .end; resume = resume; spanless = span .spanless; «barren_from» = from; «barren_to» = to; learnt = v }
 
-  past-ready : (resume from to : ℕ) (v : Bare) → Barren s from to → Vain s v → Ready s (past resume from to v)
+  past-ready : (resume from to : ℕ) (v : Learnt) → Barren s from to → Learned s v → Ready s (past resume from to v)
   unfolding Spanless
-  past-ready resume from to v gone vain =
+  past-ready resume from to v gone learned =
       let l : (c .line ≤ line) × (line ≤ suc (c .line)) = omega (arith, count-after lf (getD s (c .at) 0) (c .line)) in
       record {
         inside = omega arith;
@@ -82,23 +82,22 @@ module _ (s : List ℕ) (c : Cursor) (h : c .at < length s) (ready : Ready s c) 
         line-most = omega (arith, ready .line-most);
         no-span = λ x i k. here .no-span x (omega arith) k;
         no-function = gone;
-        vain = vain;
-        ended = ready .ended;
+        learned = learned;
       }
 
-  pub passes : sought (span .end - c .at) (c .resume - c .at) (byteBefore s (c .at)) (drop (c .at) s) ≡ none → (from to : ℕ) (v : Bare) → Barren s from to → Vain s v → Passes s c (past (c .resume) from to v)
+  pub passes : sought (span .end - c .at) (c .resume - c .at) (byteBefore s (c .at)) (drop (c .at) s) ≡ none → (from to : ℕ) (v : Learnt) → Barren s from to → Learned s v → Passes s c (past (c .resume) from to v)
   unfolding remaining
-  passes n from to v gone vain =
+  passes n from to v gone learned =
       record {
         same = step-past s (c .at) (c .line) (c .«span_end») (c .resume) (span .end) h (here .left) n ∙ ap (λ k. remainingAt s (c .at + 1) k (span .end) (c .resume)) (sym e);
-        ready = past-ready (c .resume) from to v gone vain;
+        ready = past-ready (c .resume) from to v gone learned;
         further = refl;
       }
 
   pub finds : (f : Found) (end : ℕ) (m : MeasuredAt s (c .at) (c .line) f end) → sought (span .end - c .at) (c .resume - c .at) (byteBefore s (c .at)) (drop (c .at) s) ≡ some (m .places)
-      → (v : Bare) → Vain s v → Yields s c f (past end (c .«barren_from») (c .«barren_to») v)
+      → (v : Learnt) → Learned s v → Yields s c f (past end (c .«barren_from») (c .«barren_to») v)
   unfolding remaining textFun
-  finds f end m n v vain =
+  finds f end m n v learned =
       let here-at : Here s (c .at) (c .line) (drop (c .at) s) = record { rest = refl; inside = omega arith; line-least = ready .line-least; line-most = omega (arith, ready .line-most) } in
       let g : Fine s (textFun s f) = subst (Fine s) (sym (m .function-is)) (fine s (c .at) (c .line) (drop (c .at) s) (m .places) here-at (m .found)) in
       record {
@@ -107,7 +106,7 @@ module _ (s : List ℕ) (c : Cursor) (h : c .at < length s) (ready : Ready s c) 
             ∙ ap (λ g. g ∷ remainingAt s (c .at + 1) (countAfter lf (getD s (c .at) 0) (c .line)) (span .end) (c .at + m .places .bodyTo)) (sym (m .function-is))
             ∙ ap (λ k. textFun s f ∷ remainingAt s (c .at + 1) k (span .end) (c .at + m .places .bodyTo)) (sym e)
             ∙ ap (λ k. textFun s f ∷ remainingAt s (c .at + 1) line (span .end) k) (sym (m .end-is));
-        ready = past-ready end (c .«barren_from») (c .«barren_to») v (ready .no-function) vain;
+        ready = past-ready end (c .«barren_from») (c .«barren_to») v (ready .no-function) learned;
         further = omega arith;
         name-inside = m .name-inside;
         line-most = g .line-most;
@@ -121,13 +120,13 @@ module _ (s : List ℕ) (c : Cursor) (h : c .at < length s) (ready : Ready s c) 
 -- past a byte that begins neither a mark nor a word fn: only the place and the line change
 pub quiet : (s : List ℕ) (c : Cursor) → c .at < length s → Ready s c → (getD s (c .at) 0 ≢ hash) × (getD s (c .at) 0 ≢ 102) → (line : ℕ) → line ≡ countAfter lf (getD s (c .at) 0) (c .line)
     → Passes s c
-    (record { at = c .at + 1; line = line; «span_end» = c .«span_end»; resume = c .resume; spanless = c .spanless; «barren_from» = c .«barren_from»; «barren_to» = c .«barren_to»; bare = c .bare; ends = c .ends })
+    (record { at = c .at + 1; line = line; «span_end» = c .«span_end»; resume = c .resume; spanless = c .spanless; «barren_from» = c .«barren_from»; «barren_to» = c .«barren_to»; learnt = c .learnt })
 quiet s c h ready (m, n) line e =
-    let span : Span = record { end = c .«span_end»; spanless = c .spanless } in
-    let here : SpanAt s c span = record { left = span-none (c .«span_end» - c .at) _ (no-hash s (c .at) h m); no-span = ready .no-span } in
+    let span : Span = record { end = c .«span_end»; spanless = c .spanless; learnt = c .learnt } in
+    let here : SpanAt s c span = record { left = span-none (c .«span_end» - c .at) _ (no-hash s (c .at) h m); no-span = ready .no-span; learned = ready .learned } in
     passes s c h ready span here line e
     (sought-no-word (c .«span_end» - c .at) (c .resume - c .at) (byteBefore s (c .at)) (drop (c .at) s) (other-byte s (c .at) h (byteBefore s (c .at)) n))
-    (c .«barren_from») (c .«barren_to») (c .bare) (ready .no-function) (ready .vain)
+    (c .«barren_from») (c .«barren_to») (c .learnt) (ready .no-function) (ready .learned)
 
 -- a turn that finds a function finds it for every cursor that has the same functions
 pub yields-later : (s : List ℕ) (b c : Cursor) (f : Found) (d : Cursor) → remaining s c ≡ remaining s b → b .at ≤ c .at → Yields s c f d → Yields s b f d

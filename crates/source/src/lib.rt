@@ -1,8 +1,7 @@
 // The functions of a blanked text, found and measured one after another.
 // The text is gone through byte by byte, bodies and test spans included: a test span may begin inside a body and reach past it, so no body is
 // jumped over.
-use search::Bare;
-use search::Ends;
+use search::Learnt;
 use search::Place;
 ghost use mathlib.Core.Path.{_≡_};
 ghost use mathlib.Core.Logic.{_≢_};
@@ -10,7 +9,7 @@ ghost use mathlib.Core.Bool.{true};
 ghost use Prim.Native.Nat.{_+_, _≤_, _<_};
 ghost use lib.ListN.{length};
 ghost use Rattle.text_rules.specs.Classes.{hash};
-ghost use Rattle.search.specs.Place.{Ended, Vain};
+ghost use Rattle.search.specs.Place.{Learned};
 ghost use Rattle.source_rules.specs.TextScan.{functions};
 ghost use Rattle.source.specs.Cursors.{Barren, Closed, FoundAt, Measures, Ready, Signed, SpanAt, Stepped, Turned, remaining};
 
@@ -23,13 +22,11 @@ pub struct Cursor {
     pub span_end: usize,
     pub resume: usize,
     // What was sought in vain is not sought again: no test span begins from `at` up to the first place, no name that ends from the second up to
-    // the third is a function's, and a search for a body found none.
+    // the third is a function's; and what searches for bodies and for brackets told.
     pub spanless: usize,
     pub barren_from: usize,
     pub barren_to: usize,
-    pub bare: Bare,
-    // where the text's last closing brackets stand
-    pub ends: Ends,
+    pub learnt: Learnt,
 }
 
 // A function: where its name stands in the text, and what is measured.
@@ -58,22 +55,23 @@ struct Brackets {
 }
 
 // What follows a name: all four brackets; or not all, and then neither after any other name that ends from there up to the given place. With
-// it, the last search for a body that found none.
+// it, what was learnt.
 enum Signature {
-    Whole(Brackets, Bare),
-    Broken(usize, Bare),
+    Whole(Brackets, Learnt),
+    Broken(usize, Learnt),
 }
 
 // What a word `fn` begins: a function, and where its body ends; or none, with the places between which no name that ends is a function's.
 enum Measure {
-    Counted(Found, usize, Bare),
-    Nothing(usize, usize, Bare),
+    Counted(Found, usize, Learnt),
+    Nothing(usize, usize, Learnt),
 }
 
-// The test span at a byte: its end, no further than the byte where there is none; and the place up to which none begins.
+// The test span at a byte: its end, no further than the byte where there is none; the place up to which none begins; and what was learnt.
 struct Span {
     end: usize,
     spanless: usize,
+    learnt: Learnt,
 }
 
 // One byte further, with a function or without.
@@ -83,25 +81,31 @@ enum Turn {
 }
 
 // The brackets after a name that ends at `to`.
-fn signature_at(s: &[u8], to: usize, v: Bare, e: Ends) -> Signature
-    requires { ⌜ Vain (now s) v × Ended (now s) e ⌝ }
+fn signature_at(s: &[u8], to: usize, v: Learnt) -> Signature
+    requires { ⌜ Learned (now s) v ⌝ }
     ensures { λ r. ⌜ Signed (now (s .entry)) to r ⌝ }
 {
     let Place::At(opened) = search::find(s, b'(', to) else {
         return Signature::Broken(s.len(), v);
     };
     let inside = opened + 1;
-    let Place::At(closed) = search::round_partner(s, inside, e) else {
-        return Signature::Broken(inside, v);
+    let list = search::list_end(s, inside, v);
+    let first = list.learnt;
+    let close = list.place;
+    let Place::At(closed) = close else {
+        return Signature::Broken(inside, first);
     };
-    let sought = search::body_after(s, closed + 1, v);
-    let bare = sought.bare;
-    let place = sought.place;
-    let Place::At(body) = place else {
-        return Signature::Broken(inside, bare);
+    let sought = search::body_after(s, closed + 1, first);
+    let second = sought.learnt;
+    let brace = sought.place;
+    let Place::At(body) = brace else {
+        return Signature::Broken(inside, second);
     };
-    let Place::At(end) = search::brace_partner(s, body + 1, e) else {
-        return Signature::Broken(inside, bare);
+    let block = search::block_end(s, body + 1, second);
+    let third = block.learnt;
+    let last = block.place;
+    let Place::At(end) = last else {
+        return Signature::Broken(inside, third);
     };
     Signature::Whole(
         Brackets {
@@ -110,7 +114,7 @@ fn signature_at(s: &[u8], to: usize, v: Bare, e: Ends) -> Signature
             body,
             end,
         },
-        bare,
+        third,
     )
 }
 
@@ -161,26 +165,19 @@ pub fn start(s: &[u8]) -> Cursor
         spanless: 0,
         barren_from: 0,
         barren_to: 0,
-        bare: Bare {
-            known: false,
-            at: 0,
-            angle: 0,
-            opened: 0,
-            closed: 0,
-        },
-        ends: search::last_ends(s),
+        learnt: search::nothing_learnt(s),
     }
 }
 
 impl Cursor {
     // The function whose `fn` stands at the next byte.
     fn measure(self, s: &[u8]) -> Measure
-        requires { ⌜ (self .at + 2 ≤ length (now s)) × Barren (now s) (self .«barren_from») (self .«barren_to») × Vain (now s) (self .bare) × Ended (now s) (self .ends) ⌝ }
+        requires { ⌜ (self .at + 2 ≤ length (now s)) × Barren (now s) (self .«barren_from») (self .«barren_to») × Learned (now s) (self .learnt) ⌝ }
         ensures { λ r. ⌜ Measures (now (s .entry)) self r ⌝ }
     {
         let from = search::space_end(s, self.at + 2);
         let to = search::word_end(s, from);
-        let v = self.bare;
+        let v = self.learnt;
         // `fn(u8) -> u8` is a type, not a definition.
         if to == from {
             return Measure::Nothing(self.barren_from, self.barren_to, v);
@@ -190,7 +187,7 @@ impl Cursor {
                 return Measure::Nothing(self.barren_from, self.barren_to, v);
             }
         }
-        let g = signature_at(s, to, v, self.ends);
+        let g = signature_at(s, to, v);
         match g {
             Signature::Broken(n, w) => Measure::Nothing(to, n, w),
             Signature::Whole(b, w) => {
@@ -206,9 +203,11 @@ impl Cursor {
         ensures { λ r. ⌜ SpanAt (now (s .entry)) self r ⌝ }
     {
         let at = self.at;
+        let learnt = self.learnt;
         let mut span = Span {
             end: self.span_end,
             spanless: self.spanless,
+            learnt,
         };
         if at < self.span_end {
             return span;
@@ -226,12 +225,21 @@ impl Cursor {
             span.spanless = s.len();
             return span;
         };
-        let Place::At(closed) = search::brace_partner(s, opened + 1, self.ends) else {
-            span.spanless = opened + 1;
-            return span;
+        let block = search::block_end(s, opened + 1, learnt);
+        let w = block.learnt;
+        let place = block.place;
+        let Place::At(closed) = place else {
+            return Span {
+                end: self.span_end,
+                spanless: opened + 1,
+                learnt: w,
+            };
         };
-        span.end = closed;
-        span
+        Span {
+            end: closed,
+            spanless: self.spanless,
+            learnt: w,
+        }
     }
 
     // Past the next byte.
@@ -247,6 +255,8 @@ impl Cursor {
         c.line = search::count_after(b'\n', b, self.line);
         c.span_end = span.end;
         c.spanless = span.spanless;
+        let learnt = span.learnt;
+        c.learnt = learnt;
         if b != b'f' {
             return Turn::Past(c);
         }
@@ -264,12 +274,12 @@ impl Cursor {
             Measure::Nothing(from, to, v) => {
                 c.barren_from = from;
                 c.barren_to = to;
-                c.bare = v;
+                c.learnt = v;
                 Turn::Past(c)
             }
             Measure::Counted(f, end, v) => {
                 c.resume = end;
-                c.bare = v;
+                c.learnt = v;
                 Turn::Yield(f, c)
             }
         }

@@ -32,10 +32,10 @@ loop-again c =
       omega (arith, l .loop .inv .1),
       omega arith,
       λ m h.
-      let e : m - l .loop .closed + l .loop .inner + 1 ≡ m - l .loop .closed + (l .loop .inner + 1) = omega arith in
-      l .loop .inv .3 m h
-      ∙ partner-open (a .s .now) (l .loop .at) (omega arith) (a .opening) (a .closing) (m - l .loop .closed + l .loop .inner) (l .before .pre .0) (c .if1 .taken)
-      ∙ ap (λ k. partner (a .opening) (a .closing) k (l .loop .at + 1) (drop (l .loop .at + 1) (a .s .now))) e,
+          let e : m - l .loop .closed + l .loop .inner + 1 ≡ m - l .loop .closed + (l .loop .inner + 1) = omega arith in
+          l .loop .inv .3 m h
+          ∙ partner-open (a .s .now) (l .loop .at) (omega arith) (a .opening) (a .closing) (m - l .loop .closed + l .loop .inner) (l .before .pre .0) (c .if1 .taken)
+          ∙ ap (λ k. partner (a .opening) (a .closing) k (l .loop .at + 1) (drop (l .loop .at + 1) (a .s .now))) e,
     )
 
 loop-again-2 : tie.Need-loop-again-2 Inv-loop μ-loop
@@ -46,10 +46,10 @@ loop-again-2 c =
       omega (arith, l .loop .inv .1),
       omega arith,
       λ m h.
-      let e : m - l .loop .closed + l .loop .inner - 1 ≡ m - (l .loop .closed + 1) + l .loop .inner = omega arith in
-      l .loop .inv .3 m (omega arith)
-      ∙ partner-close (a .s .now) (l .loop .at) (omega arith) (a .opening) (a .closing) (m - l .loop .closed + l .loop .inner) (l .before .pre .0) (c .before .if2 .taken) (λ z. omega arith)
-      ∙ ap (λ k. partner (a .opening) (a .closing) k (l .loop .at + 1) (drop (l .loop .at + 1) (a .s .now))) e,
+          let e : m - l .loop .closed + l .loop .inner - 1 ≡ m - (l .loop .closed + 1) + l .loop .inner = omega arith in
+          l .loop .inv .3 m (omega arith)
+          ∙ partner-close (a .s .now) (l .loop .at) (omega arith) (a .opening) (a .closing) (m - l .loop .closed + l .loop .inner) (l .before .pre .0) (c .before .if2 .taken) (λ z. omega arith)
+          ∙ ap (λ k. partner (a .opening) (a .closing) k (l .loop .at + 1) (drop (l .loop .at + 1) (a .s .now))) e,
     )
 
 loop-again-3 : tie.Need-loop-again-3 Inv-loop μ-loop
@@ -61,10 +61,10 @@ loop-again-3 c =
       omega (arith, l .loop .inv .1),
       omega arith,
       λ m h.
-      let e : m - l .loop .closed + l .loop .inner - 1 ≡ m - l .loop .closed + (l .loop .inner - 1) = omega (arith, n) in
-      l .loop .inv .3 m h
-      ∙ partner-close (a .s .now) (l .loop .at) (omega arith) (a .opening) (a .closing) (m - l .loop .closed + l .loop .inner) (l .before .pre .0) (c .before .if2 .taken) (λ z. n (omega arith))
-      ∙ ap (λ k. partner (a .opening) (a .closing) k (l .loop .at + 1) (drop (l .loop .at + 1) (a .s .now))) e,
+          let e : m - l .loop .closed + l .loop .inner - 1 ≡ m - l .loop .closed + (l .loop .inner - 1) = omega (arith, n) in
+          l .loop .inv .3 m h
+          ∙ partner-close (a .s .now) (l .loop .at) (omega arith) (a .opening) (a .closing) (m - l .loop .closed + l .loop .inner) (l .before .pre .0) (c .before .if2 .taken) (λ z. n (omega arith))
+          ∙ ap (λ k. partner (a .opening) (a .closing) k (l .loop .at + 1) (drop (l .loop .at + 1) (a .s .now))) e,
     )
 
 loop-again-4 : tie.Need-loop-again-4 Inv-loop μ-loop
@@ -75,8 +75,8 @@ loop-again-4 c =
       omega (arith, l .loop .inv .1),
       omega arith,
       λ m h.
-      l .loop .inv .3 m h
-      ∙ partner-other (a .s .now) (l .loop .at) (omega arith) (a .opening) (a .closing) (m - l .loop .closed + l .loop .inner) (c .before .if1 .left) (c .if2 .left),
+          l .loop .inv .3 m h
+          ∙ partner-other (a .s .now) (l .loop .at) (omega arith) (a .opening) (a .closing) (m - l .loop .closed + l .loop .inner) (c .before .if1 .left) (c .if2 .left),
     )
 
 returns : tie.Need-returns Inv-loop μ-loop

@@ -1,9 +1,7 @@
--- `source::start` meets its contract: at the start nothing is open, and of the places only the last closing brackets are known.
+-- `source::start` meets its contract: at the start nothing is open, and nothing was sought in vain.
 use mathlib.Core.Path.{refl}
-use mathlib.Core.Bool.{false}
 use native.Mathlib.Omega.{arith}
 use borrow.Author.Needs.{needs}
-use Rattle.text_rules.specs.BytesLaws.{true-false}
 use Rattle.source_rules.specs.TextScan.{functions}
 use Rattle.source.specs.Cursors.{Barren, Spanless, remaining, remainingAt}
 use Rattle.source.proofs.start.Statement.{statement}
@@ -18,8 +16,7 @@ returns c = (
     line-most = omega arith;
     no-span = λ x h k. absurd (omega arith);
     no-function = λ from x h k. absurd (omega arith);
-    vain = record { none-there = λ e. absurd (true-false false e refl); angle-most = omega arith; opened-most = omega arith; closed-most = omega arith };
-    ended = c .last-ends .ensures;
+    learned = c .nothing-learnt .ensures;
   },
   refl,
 )

@@ -23,25 +23,25 @@ use Rattle.source.proofs.Cursor.span_at.Tie as tie
 returns : tie.Need-returns
 returns c =
     let b = c .before .before .before in
-    record { left = span-open (b .args .self .«span_end» - b .args .self .at) _ (omega arith); no-span = b .pre .1 .no-span }
+    record { left = span-open (b .args .self .«span_end» - b .args .self .at) _ (omega arith); no-span = b .pre .1 .no-span; learned = b .pre .1 .learned }
 
 returns-2 : tie.Need-returns-2
 returns-2 c =
     let b = c .before .before .before .before .before in
-    record { left = span-none (b .args .self .«span_end» - b .args .self .at) _ (no-hash (b .args .s .now) (b .args .self .at) (b .pre .0) (c .if2 .taken)); no-span = b .pre .1 .no-span }
+    record { left = span-none (b .args .self .«span_end» - b .args .self .at) _ (no-hash (b .args .s .now) (b .args .self .at) (b .pre .0) (c .if2 .taken)); no-span = b .pre .1 .no-span; learned = b .pre .1 .learned }
 
 returns-3 : tie.Need-returns-3
 unfolding Spanless
 returns-3 c =
     let b = c .before .before .before .before .before .before .before in
     let e : blockFrom (b .args .s .now) (b .args .self .at) ≡ none = b .pre .1 .no-span (b .args .self .at) (omega arith) (omega arith) in
-    record { left = span-none (b .args .self .«span_end» - b .args .self .at) _ (no-span (b .args .s .now) (b .args .self .at) (b .pre .0) e); no-span = b .pre .1 .no-span }
+    record { left = span-none (b .args .self .«span_end» - b .args .self .at) _ (no-span (b .args .s .now) (b .args .self .at) (b .pre .0) e); no-span = b .pre .1 .no-span; learned = b .pre .1 .learned }
 
 returns-4 : tie.Need-returns-4
 returns-4 c =
     let b = c .before .before .before .before .before .before .before .before .before in
     let e = sym (c .before .test-mark .ensures) ∙ not-true _ (c .if4 .taken) in
-    record { left = span-none (b .args .self .«span_end» - b .args .self .at) _ (no-mark (b .args .s .now) (b .args .self .at) (b .pre .0) e); no-span = b .pre .1 .no-span }
+    record { left = span-none (b .args .self .«span_end» - b .args .self .at) _ (no-mark (b .args .s .now) (b .args .self .at) (b .pre .0) e); no-span = b .pre .1 .no-span; learned = b .pre .1 .learned }
 
 returns-5 : tie.Need-returns-5
 unfolding Spanless
@@ -51,10 +51,10 @@ returns-5 c =
     let at = b .args .self .at in
     let e : find braceOpen at (drop at (b .args .s .now)) ≡ none = sym (f .find .ensures) ∙ ap placeOf (c .enum-told .given .1) in
     let gone = no-brace (b .args .s .now) at e in
-    record { left = span-none (b .args .self .«span_end» - at) _ (no-span (b .args .s .now) at (b .pre .0) (gone at (omega arith))); no-span = λ x h k. gone x h }
+    record { left = span-none (b .args .self .«span_end» - at) _ (no-span (b .args .s .now) at (b .pre .0) (gone at (omega arith))); no-span = λ x h k. gone x h; learned = b .pre .1 .learned }
 
-add-brace-partner : tie.Need-add-brace-partner
-add-brace-partner c =
+add-matching-delim : tie.Need-add-matching-delim
+add-matching-delim c =
     let f = c .before .before .before in
     let b = f .before .before .before .before .before .before .before .before .before .before in
     omega (arith, find-place (b .args .s .now) (b .args .self .at) _ braceOpen (sym (f .find .ensures) ∙ ap placeOf (c .before .opened .given .1)))
@@ -75,7 +75,7 @@ returns-6 c =
     let at = b .args .self .at in
     let opened = k .before .opened .given .0 .0 in
     let e₁ : find braceOpen at (drop at (b .args .s .now)) ≡ some opened = sym (f .find .ensures) ∙ ap placeOf (k .before .opened .given .1) in
-    let e₂ : partner braceOpen braceClose 0 (opened + 1) (drop (opened + 1) (b .args .s .now)) ≡ none = sym (c .before .before .brace-partner .ensures) ∙ ap placeOf (c .enum-told2 .given .1) in
+    let e₂ : partner braceOpen braceClose 0 (opened + 1) (drop (opened + 1) (b .args .s .now)) ≡ none = sym (c .before .before .matching-delim .ensures) ∙ ap placeOf (c .enum-told2 .given .1) in
     let gone = open-block (b .args .s .now) at opened e₁ e₂ in
     let here = gone at (omega arith) (omega (arith, find-place (b .args .s .now) at opened braceOpen e₁)) in
     record { left = span-none (b .args .self .«span_end» - at) _ (no-span (b .args .s .now) at (b .pre .0) here); no-span = gone }
@@ -90,7 +90,7 @@ returns-7 c =
     let opened = k .before .opened .given .0 .0 in
     let closed = c .before .closed .given .0 .0 in
     let e₁ : find braceOpen at (drop at (b .args .s .now)) ≡ some opened = sym (f .find .ensures) ∙ ap placeOf (k .before .opened .given .1) in
-    let e₂ : partner braceOpen braceClose 0 (opened + 1) (drop (opened + 1) (b .args .s .now)) ≡ some closed = sym (c .before .before .before .brace-partner .ensures) ∙ ap placeOf (c .before .closed .given .1) in
+    let e₂ : partner braceOpen braceClose 0 (opened + 1) (drop (opened + 1) (b .args .s .now)) ≡ some closed = sym (c .before .before .before .matching-delim .ensures) ∙ ap placeOf (c .before .closed .given .1) in
     let marked : startsWith (ascii "#[cfg(test)]") (drop at (b .args .s .now)) ≡ true = sym (m .test-mark .ensures) ∙ not-false _ (f .before .if4 .left) in
     let z : b .args .self .«span_end» - at ≡ 0 = omega arith in
     record {
@@ -112,7 +112,7 @@ span-at-spec =
     (λ c. search needs)
     (λ c. search needs)
     returns-5
-    add-brace-partner
+    add-matching-delim
     (λ c κs. search needs)
     (λ c. search needs)
     (λ c. search needs)

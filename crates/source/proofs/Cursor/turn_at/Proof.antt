@@ -24,7 +24,7 @@ returns c =
     let at = b .args .self .at in
     passes s (b .args .self) (b .pre .0) (b .pre .1) (p .span-at .result) (p .span-at .ensures) (k .count-after .result) (k .count-after .ensures .0)
     (sought-no-word (p .span-at .result .end - at) (b .args .self .resume - at) (byteBefore s at) (drop at s) (other-byte s at (b .pre .0) (byteBefore s at) (c .if1 .taken)))
-    (b .args .self .«barren_from») (b .args .self .«barren_to») (b .args .self .bare) (b .pre .1 .no-function) (b .pre .1 .vain)
+    (b .args .self .«barren_from») (b .args .self .«barren_to») (p .span-at .result .learnt) (b .pre .1 .no-function) (p .span-at .ensures .learned)
 
 returns-2 : tie.Need-returns-2
 returns-2 c =
@@ -35,7 +35,7 @@ returns-2 c =
     let at = b .args .self .at in
     passes s (b .args .self) (b .pre .0) (b .pre .1) (p .span-at .result) (p .span-at .ensures) (k .count-after .result) (k .count-after .ensures .0)
     (sought-in-span (p .span-at .result .end - at) (b .args .self .resume - at) (byteBefore s at) (drop at s) (λ z. omega arith))
-    (b .args .self .«barren_from») (b .args .self .«barren_to») (b .args .self .bare) (b .pre .1 .no-function) (b .pre .1 .vain)
+    (b .args .self .«barren_from») (b .args .self .«barren_to») (p .span-at .result .learnt) (b .pre .1 .no-function) (p .span-at .ensures .learned)
 
 returns-3 : tie.Need-returns-3
 returns-3 c =
@@ -46,7 +46,7 @@ returns-3 c =
     let at = b .args .self .at in
     passes s (b .args .self) (b .pre .0) (b .pre .1) (p .span-at .result) (p .span-at .ensures) (k .count-after .result) (k .count-after .ensures .0)
     (sought-skipped (p .span-at .result .end - at) (b .args .self .resume - at) (byteBefore s at) (drop at s) (λ z. omega arith))
-    (b .args .self .«barren_from») (b .args .self .«barren_to») (b .args .self .bare) (b .pre .1 .no-function) (b .pre .1 .vain)
+    (b .args .self .«barren_from») (b .args .self .«barren_to») (p .span-at .result .learnt) (b .pre .1 .no-function) (p .span-at .ensures .learned)
 
 returns-4 : tie.Need-returns-4
 returns-4 c =
@@ -58,13 +58,13 @@ returns-4 c =
     let at = b .args .self .at in
     passes s (b .args .self) (b .pre .0) (b .pre .1) (p .span-at .result) (p .span-at .ensures) (k .count-after .result) (k .count-after .ensures .0)
     (sought-no-word (p .span-at .result .end - at) (b .args .self .resume - at) (byteBefore s at) (drop at s) (sym (w .word-at .ensures) ∙ not-true _ (c .if4 .taken)))
-    (b .args .self .«barren_from») (b .args .self .«barren_to») (b .args .self .bare) (b .pre .1 .no-function) (b .pre .1 .vain)
+    (b .args .self .«barren_from») (b .args .self .«barren_to») (p .span-at .result .learnt) (b .pre .1 .no-function) (p .span-at .ensures .learned)
 
 measure-requires : tie.Need-measure-requires
 measure-requires c κs =
     let w = c .before in
     let b = w .before .before .before .before .before .before .before .before .before .before in
-    (fn-inside (b .args .s .now) (b .args .self .at) (b .pre .0) _ (sym (w .word-at .ensures) ∙ not-false _ (c .if4 .left)), b .pre .1 .no-function, b .pre .1 .vain, b .pre .1 .ended)
+    (fn-inside (b .args .s .now) (b .args .self .at) (b .pre .0) _ (sym (w .word-at .ensures) ∙ not-false _ (c .if4 .left)), b .pre .1 .no-function, b .pre .1 .learned)
 
 returns-5 : tie.Need-returns-5
 returns-5 c =

@@ -1,4 +1,4 @@
--- `search::body_after` meets its contract: where the last search that found none passed the place at depth 0, it is the search from there on;
+-- `search::body_behind` meets its contract: where the last search that found none passed the place at depth 0, it is the search from there on;
 -- elsewhere a new one is made, and if it finds none it is the last.
 use Prim.Native.Nat.{ℕ}
 use mathlib.Core.Path.{_≡_, ap, subst, sym, _∙_}
@@ -11,8 +11,8 @@ use Rattle.source_rules.specs.BodyLaws.{body-flat}
 use Rattle.source_rules.specs.Finding.{bodyAt}
 use Rattle.search.specs.Place.{Passed, Vain, placeOf}
 use Rattle.search.specs.declared.Bare.{Bare}
-use Rattle.search.proofs.body_after.Statement.{statement}
-use Rattle.search.proofs.body_after.Tie as tie
+use Rattle.search.proofs.body_behind.Statement.{statement}
+use Rattle.search.proofs.body_behind.Tie as tie
 
 none-from : (s : List ℕ) (v : Bare) (from : ℕ) → Vain s v → Passed v from → bodyAt 0 0 0 from (drop from s) ≡ none
 none-from s v from h p =
@@ -34,6 +34,6 @@ returns-3 c =
     let o = c .before .before in
     (o .body-open .ensures, record { none-there = λ e. sym (o .body-open .ensures) ∙ ap placeOf (c .enum-told .given .1); angle-most = omega arith; opened-most = omega arith; closed-most = omega arith })
 
-pub body-after-spec : {M : Type 1} → statement M
-body-after-spec =
+pub body-behind-spec : {M : Type 1} → statement M
+body-behind-spec =
     tie.close (tie.spec (λ c κs. search needs) (λ c κs. search needs) returns (λ c κs. search needs) (λ c. search needs) (λ c. search needs) returns-2 returns-3)
