@@ -19,114 +19,128 @@ use Rattle.source.proofs.signature_at.Tie as tie
 returns : tie.Need-returns
 unfolding Barren
 returns c =
-    let f = c .before .before in
-    let b = f .before .before in
+    let b = c .before .before .before .before in
     let a = b .args in
-    let e : find roundOpen (a .to) (drop (a .to) (a .s .now)) ≡ none = sym (f .find .ensures) ∙ ap placeOf (c .enum-told .given .1) in
-    (record { none-here = λ from. no-list (a .s .now) (a .to) e from (a .to) (omega arith); no-function = λ from x h k. no-list (a .s .now) (a .to) e from x h }, b .pre .0)
+    let e : find roundOpen (a .to) (drop (a .to) (a .s .now)) ≡ none = sym (c .before .before .find .ensures) ∙ ap placeOf (c .enum-told .given .1) in
+    (record { none-here = λ from. no-list (a .s .now) (a .to) e from (a .to) (omega arith); no-function = λ from x h k. no-list (a .s .now) (a .to) e from x h }, b .pre)
 
 add-inside : tie.Need-add-inside
 add-inside c =
-    let a = c .before .before .before .before .before .args in
+    let b = c .before .before .before .before .before in
+    let a = b .args in
     let opened = c .before .opened .given .0 .0 in
     let e₁ : find roundOpen (a .to) (drop (a .to) (a .s .now)) ≡ some opened = sym (c .before .before .before .find .ensures) ∙ ap placeOf (c .before .opened .given .1) in
     omega (arith, find-place (a .s .now) (a .to) opened roundOpen e₁)
 
+list-end-requires : tie.Need-list-end-requires
+list-end-requires c κs =
+    let b = c .before .before .before .before .before in
+    let a = b .args in
+    let opened = c .before .opened .given .0 .0 in
+    let e₁ : find roundOpen (a .to) (drop (a .to) (a .s .now)) ≡ some opened = sym (c .before .before .before .find .ensures) ∙ ap placeOf (c .before .opened .given .1) in
+    (omega (arith, find-place (a .s .now) (a .to) opened roundOpen e₁), b .pre)
+
 returns-2 : tie.Need-returns-2
 unfolding Barren
 returns-2 c =
-    let k₁ = c .before .before .before in
-    let a = k₁ .before .before .before .before .before .args in
-    let opened = k₁ .before .opened .given .0 .0 in
-    let e₁ : find roundOpen (a .to) (drop (a .to) (a .s .now)) ≡ some opened = sym (k₁ .before .before .before .find .ensures) ∙ ap placeOf (k₁ .before .opened .given .1) in
-    let e : partner roundOpen roundClose 0 (opened + 1) (drop (opened + 1) (a .s .now)) ≡ none = sym (c .before .before .round-partner .ensures) ∙ ap placeOf (c .enum-told2 .given .1) in
+    let b = c .before .before .before .before .before .before .before .before .before in
+    let a = b .args in
+    let opened = c .before .before .before .before .before .opened .given .0 .0 in
+    let e₁ : find roundOpen (a .to) (drop (a .to) (a .s .now)) ≡ some opened = sym (c .before .before .before .before .before .before .before .find .ensures) ∙ ap placeOf (c .before .before .before .before .before .opened .given .1) in
+    let e : partner roundOpen roundClose 0 (opened + 1) (drop (opened + 1) (a .s .now)) ≡ none = sym (c .before .before .before .list-end .ensures .0) ∙ ap placeOf (c .enum-told2 .given .1) in
     let gone = open-list (a .s .now) (a .to) opened e₁ e in
-    (record { none-here = λ from. gone from (a .to) (omega arith) (omega (arith, find-place (a .s .now) (a .to) opened roundOpen e₁)); no-function = gone }, k₁ .before .before .before .before .before .pre .0)
+    (record { none-here = λ from. gone from (a .to) (omega arith) (omega (arith, find-place (a .s .now) (a .to) opened roundOpen e₁)); no-function = gone }, c .before .before .before .list-end .ensures .1)
 
 add-body-after : tie.Need-add-body-after
 add-body-after c =
-    let k₁ = c .before .before .before .before in
-    let a = k₁ .before .before .before .before .before .args in
-    let opened = k₁ .before .opened .given .0 .0 in
-    let e₁ : find roundOpen (a .to) (drop (a .to) (a .s .now)) ≡ some opened = sym (k₁ .before .before .before .find .ensures) ∙ ap placeOf (k₁ .before .opened .given .1) in
-    let closed = c .before .closed .given .0 .0 in
-    let e₂ : partner roundOpen roundClose 0 (opened + 1) (drop (opened + 1) (a .s .now)) ≡ some closed = sym (c .before .before .before .round-partner .ensures) ∙ ap placeOf (c .before .closed .given .1) in
+    let b = c .before .before .before .before .before .before .before .before .before .before in
+    let a = b .args in
+    let opened = c .before .before .before .before .before .before .opened .given .0 .0 in
+    let e₁ : find roundOpen (a .to) (drop (a .to) (a .s .now)) ≡ some opened = sym (c .before .before .before .before .before .before .before .before .find .ensures) ∙ ap placeOf (c .before .before .before .before .before .before .opened .given .1) in
+    let closed = c .before .close .given .0 .0 in
+    let e₂ : partner roundOpen roundClose 0 (opened + 1) (drop (opened + 1) (a .s .now)) ≡ some closed = sym (c .before .before .before .before .list-end .ensures .0) ∙ ap placeOf (c .before .close .given .1) in
     omega (arith, partner-place (a .s .now) (opened + 1) closed roundOpen roundClose e₂)
 
 body-after-requires : tie.Need-body-after-requires
 body-after-requires c κs =
-    let k₁ = c .before .before .before .before in
-    let a = k₁ .before .before .before .before .before .args in
-    let opened = k₁ .before .opened .given .0 .0 in
-    let e₁ : find roundOpen (a .to) (drop (a .to) (a .s .now)) ≡ some opened = sym (k₁ .before .before .before .find .ensures) ∙ ap placeOf (k₁ .before .opened .given .1) in
-    let closed = c .before .closed .given .0 .0 in
-    let e₂ : partner roundOpen roundClose 0 (opened + 1) (drop (opened + 1) (a .s .now)) ≡ some closed = sym (c .before .before .before .round-partner .ensures) ∙ ap placeOf (c .before .closed .given .1) in
-    (omega (arith, partner-place (a .s .now) (opened + 1) closed roundOpen roundClose e₂), k₁ .before .before .before .before .before .pre .0)
+    let b = c .before .before .before .before .before .before .before .before .before .before in
+    let a = b .args in
+    let opened = c .before .before .before .before .before .before .opened .given .0 .0 in
+    let e₁ : find roundOpen (a .to) (drop (a .to) (a .s .now)) ≡ some opened = sym (c .before .before .before .before .before .before .before .before .find .ensures) ∙ ap placeOf (c .before .before .before .before .before .before .opened .given .1) in
+    let closed = c .before .close .given .0 .0 in
+    let e₂ : partner roundOpen roundClose 0 (opened + 1) (drop (opened + 1) (a .s .now)) ≡ some closed = sym (c .before .before .before .before .list-end .ensures .0) ∙ ap placeOf (c .before .close .given .1) in
+    (omega (arith, partner-place (a .s .now) (opened + 1) closed roundOpen roundClose e₂), c .before .before .before .before .list-end .ensures .1)
 
 returns-3 : tie.Need-returns-3
 unfolding Barren
 returns-3 c =
-    let k₂ = c .before .before .before .before in
-    let k₁ = k₂ .before .before .before .before in
-    let a = k₁ .before .before .before .before .before .args in
-    let opened = k₁ .before .opened .given .0 .0 in
-    let e₁ : find roundOpen (a .to) (drop (a .to) (a .s .now)) ≡ some opened = sym (k₁ .before .before .before .find .ensures) ∙ ap placeOf (k₁ .before .opened .given .1) in
-    let closed = k₂ .before .closed .given .0 .0 in
-    let e₂ : partner roundOpen roundClose 0 (opened + 1) (drop (opened + 1) (a .s .now)) ≡ some closed = sym (k₂ .before .before .before .round-partner .ensures) ∙ ap placeOf (k₂ .before .closed .given .1) in
+    let b = c .before .before .before .before .before .before .before .before .before .before .before .before .before .before in
+    let a = b .args in
+    let opened = c .before .before .before .before .before .before .before .before .before .before .opened .given .0 .0 in
+    let e₁ : find roundOpen (a .to) (drop (a .to) (a .s .now)) ≡ some opened = sym (c .before .before .before .before .before .before .before .before .before .before .before .before .find .ensures) ∙ ap placeOf (c .before .before .before .before .before .before .before .before .before .before .opened .given .1) in
+    let closed = c .before .before .before .before .before .close .given .0 .0 in
+    let e₂ : partner roundOpen roundClose 0 (opened + 1) (drop (opened + 1) (a .s .now)) ≡ some closed = sym (c .before .before .before .before .before .before .before .before .list-end .ensures .0) ∙ ap placeOf (c .before .before .before .before .before .close .given .1) in
     let e : bodyAt 0 0 0 (closed + 1) (drop (closed + 1) (a .s .now)) ≡ none = sym (c .before .before .before .body-after .ensures .0) ∙ ap placeOf (c .enum-told3 .given .1) in
     let gone = no-body (a .s .now) (a .to) opened e₁ closed e₂ e in
     (record { none-here = λ from. gone from (a .to) (omega arith) (omega (arith, find-place (a .s .now) (a .to) opened roundOpen e₁)); no-function = gone }, c .before .before .before .body-after .ensures .1)
 
-add-brace-partner : tie.Need-add-brace-partner
-add-brace-partner c =
-    let k₂ = c .before .before .before .before .before in
-    let k₁ = k₂ .before .before .before .before in
-    let a = k₁ .before .before .before .before .before .args in
-    let opened = k₁ .before .opened .given .0 .0 in
-    let e₁ : find roundOpen (a .to) (drop (a .to) (a .s .now)) ≡ some opened = sym (k₁ .before .before .before .find .ensures) ∙ ap placeOf (k₁ .before .opened .given .1) in
-    let closed = k₂ .before .closed .given .0 .0 in
-    let e₂ : partner roundOpen roundClose 0 (opened + 1) (drop (opened + 1) (a .s .now)) ≡ some closed = sym (k₂ .before .before .before .round-partner .ensures) ∙ ap placeOf (k₂ .before .closed .given .1) in
-    let body = c .before .place .given .0 .0 in
-    let e₃ : bodyAt 0 0 0 (closed + 1) (drop (closed + 1) (a .s .now)) ≡ some body = sym (c .before .before .before .before .body-after .ensures .0) ∙ ap placeOf (c .before .place .given .1) in
+add-block-end : tie.Need-add-block-end
+add-block-end c =
+    let b = c .before .before .before .before .before .before .before .before .before .before .before .before .before .before .before in
+    let a = b .args in
+    let opened = c .before .before .before .before .before .before .before .before .before .before .before .opened .given .0 .0 in
+    let e₁ : find roundOpen (a .to) (drop (a .to) (a .s .now)) ≡ some opened = sym (c .before .before .before .before .before .before .before .before .before .before .before .before .before .find .ensures) ∙ ap placeOf (c .before .before .before .before .before .before .before .before .before .before .before .opened .given .1) in
+    let closed = c .before .before .before .before .before .before .close .given .0 .0 in
+    let e₂ : partner roundOpen roundClose 0 (opened + 1) (drop (opened + 1) (a .s .now)) ≡ some closed = sym (c .before .before .before .before .before .before .before .before .before .list-end .ensures .0) ∙ ap placeOf (c .before .before .before .before .before .before .close .given .1) in
+    let body = c .before .brace .given .0 .0 in
+    let e₃ : bodyAt 0 0 0 (closed + 1) (drop (closed + 1) (a .s .now)) ≡ some body = sym (c .before .before .before .before .body-after .ensures .0) ∙ ap placeOf (c .before .brace .given .1) in
     omega (arith, body-place (a .s .now) (closed + 1) body e₃)
+
+block-end-requires : tie.Need-block-end-requires
+block-end-requires c κs =
+    let b = c .before .before .before .before .before .before .before .before .before .before .before .before .before .before .before in
+    let a = b .args in
+    let opened = c .before .before .before .before .before .before .before .before .before .before .before .opened .given .0 .0 in
+    let e₁ : find roundOpen (a .to) (drop (a .to) (a .s .now)) ≡ some opened = sym (c .before .before .before .before .before .before .before .before .before .before .before .before .before .find .ensures) ∙ ap placeOf (c .before .before .before .before .before .before .before .before .before .before .before .opened .given .1) in
+    let closed = c .before .before .before .before .before .before .close .given .0 .0 in
+    let e₂ : partner roundOpen roundClose 0 (opened + 1) (drop (opened + 1) (a .s .now)) ≡ some closed = sym (c .before .before .before .before .before .before .before .before .before .list-end .ensures .0) ∙ ap placeOf (c .before .before .before .before .before .before .close .given .1) in
+    let body = c .before .brace .given .0 .0 in
+    let e₃ : bodyAt 0 0 0 (closed + 1) (drop (closed + 1) (a .s .now)) ≡ some body = sym (c .before .before .before .before .body-after .ensures .0) ∙ ap placeOf (c .before .brace .given .1) in
+    (omega (arith, body-place (a .s .now) (closed + 1) body e₃), c .before .before .before .before .body-after .ensures .1)
 
 returns-4 : tie.Need-returns-4
 unfolding Barren
 returns-4 c =
-    let k₃ = c .before .before .before in
-    let k₂ = k₃ .before .before .before .before .before in
-    let k₁ = k₂ .before .before .before .before in
-    let a = k₁ .before .before .before .before .before .args in
-    let opened = k₁ .before .opened .given .0 .0 in
-    let e₁ : find roundOpen (a .to) (drop (a .to) (a .s .now)) ≡ some opened = sym (k₁ .before .before .before .find .ensures) ∙ ap placeOf (k₁ .before .opened .given .1) in
-    let closed = k₂ .before .closed .given .0 .0 in
-    let e₂ : partner roundOpen roundClose 0 (opened + 1) (drop (opened + 1) (a .s .now)) ≡ some closed = sym (k₂ .before .before .before .round-partner .ensures) ∙ ap placeOf (k₂ .before .closed .given .1) in
-    let body = k₃ .before .place .given .0 .0 in
-    let e₃ : bodyAt 0 0 0 (closed + 1) (drop (closed + 1) (a .s .now)) ≡ some body = sym (k₃ .before .before .before .before .body-after .ensures .0) ∙ ap placeOf (k₃ .before .place .given .1) in
-    let e : partner braceOpen braceClose 0 (body + 1) (drop (body + 1) (a .s .now)) ≡ none = sym (c .before .before .brace-partner .ensures) ∙ ap placeOf (c .enum-told4 .given .1) in
+    let b = c .before .before .before .before .before .before .before .before .before .before .before .before .before .before .before .before .before .before .before in
+    let a = b .args in
+    let opened = c .before .before .before .before .before .before .before .before .before .before .before .before .before .before .before .opened .given .0 .0 in
+    let e₁ : find roundOpen (a .to) (drop (a .to) (a .s .now)) ≡ some opened = sym (c .before .before .before .before .before .before .before .before .before .before .before .before .before .before .before .before .before .find .ensures) ∙ ap placeOf (c .before .before .before .before .before .before .before .before .before .before .before .before .before .before .before .opened .given .1) in
+    let closed = c .before .before .before .before .before .before .before .before .before .before .close .given .0 .0 in
+    let e₂ : partner roundOpen roundClose 0 (opened + 1) (drop (opened + 1) (a .s .now)) ≡ some closed = sym (c .before .before .before .before .before .before .before .before .before .before .before .before .before .list-end .ensures .0) ∙ ap placeOf (c .before .before .before .before .before .before .before .before .before .before .close .given .1) in
+    let body = c .before .before .before .before .before .brace .given .0 .0 in
+    let e₃ : bodyAt 0 0 0 (closed + 1) (drop (closed + 1) (a .s .now)) ≡ some body = sym (c .before .before .before .before .before .before .before .before .body-after .ensures .0) ∙ ap placeOf (c .before .before .before .before .before .brace .given .1) in
+    let e : partner braceOpen braceClose 0 (body + 1) (drop (body + 1) (a .s .now)) ≡ none = sym (c .before .before .before .block-end .ensures .0) ∙ ap placeOf (c .enum-told4 .given .1) in
     let gone = open-body (a .s .now) (a .to) opened e₁ closed e₂ body e₃ e in
-    (record { none-here = λ from. gone from (a .to) (omega arith) (omega (arith, find-place (a .s .now) (a .to) opened roundOpen e₁)); no-function = gone }, k₃ .before .before .before .before .body-after .ensures .1)
+    (record { none-here = λ from. gone from (a .to) (omega arith) (omega (arith, find-place (a .s .now) (a .to) opened roundOpen e₁)); no-function = gone }, c .before .before .before .block-end .ensures .1)
 
 returns-5 : tie.Need-returns-5
 returns-5 c =
-    let k₃ = c .before .before .before .before in
-    let k₂ = k₃ .before .before .before .before .before in
-    let k₁ = k₂ .before .before .before .before in
-    let a = k₁ .before .before .before .before .before .args in
-    let opened = k₁ .before .opened .given .0 .0 in
-    let e₁ : find roundOpen (a .to) (drop (a .to) (a .s .now)) ≡ some opened = sym (k₁ .before .before .before .find .ensures) ∙ ap placeOf (k₁ .before .opened .given .1) in
-    let closed = k₂ .before .closed .given .0 .0 in
-    let e₂ : partner roundOpen roundClose 0 (opened + 1) (drop (opened + 1) (a .s .now)) ≡ some closed = sym (k₂ .before .before .before .round-partner .ensures) ∙ ap placeOf (k₂ .before .closed .given .1) in
-    let body = k₃ .before .place .given .0 .0 in
-    let e₃ : bodyAt 0 0 0 (closed + 1) (drop (closed + 1) (a .s .now)) ≡ some body = sym (k₃ .before .before .before .before .body-after .ensures .0) ∙ ap placeOf (k₃ .before .place .given .1) in
-    let end = c .before .end .given .0 .0 in
-    let e₄ : partner braceOpen braceClose 0 (body + 1) (drop (body + 1) (a .s .now)) ≡ some end = sym (c .before .before .before .brace-partner .ensures) ∙ ap placeOf (c .before .end .given .1) in
+    let b = c .before .before .before .before .before .before .before .before .before .before .before .before .before .before .before .before .before .before .before .before in
+    let a = b .args in
+    let opened = c .before .before .before .before .before .before .before .before .before .before .before .before .before .before .before .before .opened .given .0 .0 in
+    let e₁ : find roundOpen (a .to) (drop (a .to) (a .s .now)) ≡ some opened = sym (c .before .before .before .before .before .before .before .before .before .before .before .before .before .before .before .before .before .before .find .ensures) ∙ ap placeOf (c .before .before .before .before .before .before .before .before .before .before .before .before .before .before .before .before .opened .given .1) in
+    let closed = c .before .before .before .before .before .before .before .before .before .before .before .close .given .0 .0 in
+    let e₂ : partner roundOpen roundClose 0 (opened + 1) (drop (opened + 1) (a .s .now)) ≡ some closed = sym (c .before .before .before .before .before .before .before .before .before .before .before .before .before .before .list-end .ensures .0) ∙ ap placeOf (c .before .before .before .before .before .before .before .before .before .before .before .close .given .1) in
+    let body = c .before .before .before .before .before .before .brace .given .0 .0 in
+    let e₃ : bodyAt 0 0 0 (closed + 1) (drop (closed + 1) (a .s .now)) ≡ some body = sym (c .before .before .before .before .before .before .before .before .before .body-after .ensures .0) ∙ ap placeOf (c .before .before .before .before .before .before .brace .given .1) in
+    let end = c .before .last .given .0 .0 in
+    let e₄ : partner braceOpen braceClose 0 (body + 1) (drop (body + 1) (a .s .now)) ≡ some end = sym (c .before .before .before .before .block-end .ensures .0) ∙ ap placeOf (c .before .last .given .1) in
     let i₁ = find-place (a .s .now) (a .to) opened roundOpen e₁ in
     let i₂ = partner-place (a .s .now) (opened + 1) closed roundOpen roundClose e₂ in
     let i₃ = body-place (a .s .now) (closed + 1) body e₃ in
     let i₄ = partner-place (a .s .now) (body + 1) end braceOpen braceClose e₄ in (
       record { name-first = i₁ .0; list-order = omega arith; list-first = omega arith; body-order = omega arith; inside = i₄ .1; places = whole (a .s .now) (a .to) opened e₁ closed e₂ body e₃ end e₄ },
-      k₃ .before .before .before .before .body-after .ensures .1,
+      c .before .before .before .before .block-end .ensures .1,
     )
 
 pub signature-at-spec : {M : Type 1} → statement M
@@ -138,7 +152,7 @@ signature-at-spec =
     (λ c. search needs)
     returns
     add-inside
-    (λ c κs. search needs)
+    list-end-requires
     (λ c. search needs)
     (λ c. search needs)
     returns-2
@@ -147,8 +161,8 @@ signature-at-spec =
     (λ c. search needs)
     (λ c. search needs)
     returns-3
-    add-brace-partner
-    (λ c κs. search needs)
+    add-block-end
+    block-end-requires
     (λ c. search needs)
     (λ c. search needs)
     returns-4

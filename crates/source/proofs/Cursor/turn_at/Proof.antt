@@ -17,7 +17,7 @@ use Rattle.source.proofs.Cursor.turn_at.Tie as tie
 
 returns : tie.Need-returns
 returns c =
-    let k = c .before in
+    let k = c .before .before in
     let p = k .before in
     let b = p .before .before .before in
     let s = b .args .s .now in
@@ -28,7 +28,7 @@ returns c =
 
 returns-2 : tie.Need-returns-2
 returns-2 c =
-    let k = c .before .before .before in
+    let k = c .before .before .before .before in
     let p = k .before in
     let b = p .before .before .before in
     let s = b .args .s .now in
@@ -39,7 +39,7 @@ returns-2 c =
 
 returns-3 : tie.Need-returns-3
 returns-3 c =
-    let k = c .before .before .before .before .before in
+    let k = c .before .before .before .before .before .before in
     let p = k .before in
     let b = p .before .before .before in
     let s = b .args .s .now in
@@ -51,7 +51,7 @@ returns-3 c =
 returns-4 : tie.Need-returns-4
 returns-4 c =
     let w = c .before in
-    let k = w .before .before .before .before .before .before in
+    let k = w .before .before .before .before .before .before .before in
     let p = k .before in
     let b = p .before .before .before in
     let s = b .args .s .now in
@@ -63,14 +63,14 @@ returns-4 c =
 measure-requires : tie.Need-measure-requires
 measure-requires c κs =
     let w = c .before in
-    let b = w .before .before .before .before .before .before .before .before .before .before in
+    let b = w .before .before .before .before .before .before .before .before .before .before .before in
     (fn-inside (b .args .s .now) (b .args .self .at) (b .pre .0) _ (sym (w .word-at .ensures) ∙ not-false _ (c .if4 .left)), b .pre .1 .no-function, b .pre .1 .learned)
 
 returns-5 : tie.Need-returns-5
 returns-5 c =
     let m = c .before .before .before in
     let w = m .before .before in
-    let k = w .before .before .before .before .before .before in
+    let k = w .before .before .before .before .before .before .before in
     let p = k .before in
     let b = p .before .before .before in
     let s = b .args .s .now in
@@ -85,7 +85,7 @@ returns-6 : tie.Need-returns-6
 returns-6 c =
     let m = c .before .before .before in
     let w = m .before .before in
-    let k = w .before .before .before .before .before .before in
+    let k = w .before .before .before .before .before .before .before in
     let p = k .before in
     let b = p .before .before .before in
     let s = b .args .s .now in
