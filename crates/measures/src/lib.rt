@@ -12,6 +12,7 @@ ghost use Rattle.text_rules.specs.Classes.{comma, isWord};
 ghost use Rattle.text_rules.specs.Search.{endsIn, run, startsWith};
 ghost use Rattle.source_rules.specs.Measures.{cyclomaticOf, isPair};
 ghost use Rattle.source_rules.specs.Parameters.{counted, isClosing, isOpening, one, paramsOf, partsFrom, takesSelf};
+ghost use Rattle.classes.specs.Lent.{IsTable};
 ghost use Rattle.measures.specs.Walks.{Measured, PieceAt, Shaped, head};
 
 // Whether a byte is one of two.
@@ -179,13 +180,13 @@ fn shape_of(body: &[u8]) -> Shape
 }
 
 // The place behind the word that stands at a place.
-fn word_end(s: &[u8], from: usize) -> usize
-    requires { ⌜ from ≤ length (now s) ⌝ }
+fn word_end(table: &[u8; 256], s: &[u8], from: usize) -> usize
+    requires { ⌜ IsTable (now table) × (from ≤ length (now s)) ⌝ }
     ensures { λ r. ⌜ (r ≡ from + run isWord (drop from (now (s .entry)))) × (r ≤ length (now (s .entry))) ⌝ }
 {
     let mut at = from;
     while at < s.len() {
-        if !classes::is_word(s[at]) {
+        if classes::class_in(table, s[at]) < 2 {
             return at;
         }
         at += 1;
@@ -249,13 +250,13 @@ struct Piece {
 }
 
 // The piece at a place.
-fn piece_at(body: &[u8], at: usize) -> Piece
-    requires { ⌜ at < length (now body) ⌝ }
+fn piece_at(table: &[u8; 256], body: &[u8], at: usize) -> Piece
+    requires { ⌜ IsTable (now table) × (at < length (now body)) ⌝ }
     ensures { λ r. ⌜ PieceAt (now (body .entry)) at r ⌝ }
 {
     let b = body[at];
-    if classes::is_letter(b) {
-        let end = word_end(body, at);
+    if classes::class_in(table, b) == 3 {
+        let end = word_end(table, body, at);
         return Piece {
             end,
             decides: decides_word(&body[at..end]),
@@ -277,10 +278,11 @@ fn piece_at(body: &[u8], at: usize) -> Piece
 fn cyclomatic(body: &[u8]) -> usize
     ensures { λ r. ⌜ r ≡ cyclomaticOf (now (body .entry)) ⌝ }
 {
+    let table = classes::table();
     let mut n = 1;
     let mut at = 0;
     while at < body.len() {
-        let p = piece_at(body, at);
+        let p = piece_at(&table, body, at);
         at = p.end;
         if p.decides {
             n += 1;

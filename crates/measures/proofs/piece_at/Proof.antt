@@ -5,7 +5,7 @@ use lib.ListN.{drop, getD}
 use Rattle.source_rules.specs.Measures.{isPair}
 use Prim.Native.Nat.{_+_}
 use native.Mathlib.Omega.{arith}
-use Rattle.measures.proofs.Body.{byte-decides, byte-length, pair-at, pair-decides, pair-length, piece-room, word-decides, word-length}
+use Rattle.measures.proofs.Body.{byte-decides, byte-length, letter-class, other-class, pair-at, pair-decides, pair-length, piece-room, word-decides, word-length}
 use borrow.Author.Needs.{needs}
 use Rattle.measures.proofs.piece_at.Statement.{statement}
 use Rattle.measures.proofs.piece_at.Tie as tie
@@ -18,7 +18,7 @@ returns c =
     let i = e .before .before in
     let a = i .before .before .before .args in
     let s = a .body .now in
-    let l = sym (i .is-letter .ensures) ∙ e .before .if1 .taken in
+    let l = letter-class (getD s (a .at) 0) (i .class-in .result) (i .class-in .ensures) (e .before .if1 .taken) in
     record {
       end-is = word-length s (a .at) (e .word-end .result) (e .word-end .ensures .0) l;
       decides-is = c .decides-word .ensures ∙ word-decides s (a .at) (e .word-end .result) (e .word-end .ensures .0) l;
@@ -31,7 +31,7 @@ returns-2 c =
     let e = y .before in
     let a = e .before .before .before .before .args in
     let s = a .body .now in
-    let l = sym (e .before .is-letter .ensures) ∙ e .if1 .left in
+    let l = other-class (getD s (a .at) 0) (e .before .class-in .result) (e .before .class-in .ensures) (e .if1 .left) in
     let p : isPair (drop (a .at) s) ≡ true = pair-at s (a .at) ∙ ap (λ k. isPair (getD s (a .at) 0 ∷ k ∷ [])) (sym (y .byte .ensures)) ∙ sym (c .before .is-pair .ensures) ∙ c .if2 .taken in
     record {
       end-is = ap (λ k. a .at + k) (sym (pair-length s (a .at) l p));
@@ -45,7 +45,7 @@ returns-3 c =
     let e = y .before in
     let a = e .before .before .before .before .args in
     let s = a .body .now in
-    let l = sym (e .before .is-letter .ensures) ∙ e .if1 .left in
+    let l = other-class (getD s (a .at) 0) (e .before .class-in .result) (e .before .class-in .ensures) (e .if1 .left) in
     let p : isPair (drop (a .at) s) ≡ false = pair-at s (a .at) ∙ ap (λ k. isPair (getD s (a .at) 0 ∷ k ∷ [])) (sym (y .byte .ensures)) ∙ sym (c .before .is-pair .ensures) ∙ c .if2 .left in
     record {
       end-is = ap (λ k. a .at + k) (sym (byte-length s (a .at) l p));
