@@ -6,7 +6,7 @@ use borrow.Author.Needs.{needs}
 use lib.ListN.{drop, length}
 use Rattle.source_rules.specs.Measures.{cyclomaticFrom, cyclomaticOf}
 use Rattle.source_rules.specs.WalkSteps.{cyclomatic-end}
-use Rattle.measures.proofs.Body.{cyclomatic-more, cyclomatic-same, piece-room}
+use Rattle.measures.proofs.BodyLaws.{cyclomatic-more, cyclomatic-same, piece-room}
 use Rattle.measures.proofs.cyclomatic.Statement.{statement}
 use Rattle.measures.proofs.cyclomatic.Tie as tie
 
