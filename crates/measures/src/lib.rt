@@ -1,6 +1,6 @@
 // What is measured of a function: the parameters of its list, and the cyclomatic number, the nesting and the lines of its body.
-// A list is counted between its first and its last byte that are not of white space. A body is walked twice: byte by byte for nesting and lines,
-// and by whole pieces for the cyclomatic number, so that `iffy` is not read as `if`.
+// A list is counted between its first and its last byte that are not of white space. A body is walked by whole pieces, so that `iffy` is not read
+// as `if`: `walk_from` finds its end and its measures in one pass, `walk` is given a body that was found.
 ghost use mathlib.Core.Path.{_≡_};
 ghost use mathlib.Core.Bool.{false, true, _||_};
 ghost use mathlib.Core.List.{[], _∷_};
@@ -348,7 +348,7 @@ pub enum BodyAt {
     Open,
 }
 
-// The body whose opening brace stands at a place, in one pass by pieces. The commonest bytes are tested first: a space, then a letter.
+// The body whose opening brace stands at a place. `depth` counts the braces that are open inside it. The commonest bytes are tested first.
 pub fn walk_from(s: &[u8], from: usize) -> BodyAt
     requires { ⌜ (from < length (now s)) × (getD (now s) from 0 ≡ braceOpen) ⌝ }
     ensures { λ r. ⌜ WalkedFrom (now (s .entry)) from r ⌝ }

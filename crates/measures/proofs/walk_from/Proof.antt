@@ -6,7 +6,8 @@ use borrow.Author.Needs.{needs}
 use lib.ListN.{getD, length}
 use Rattle.text_rules.specs.Bytes.{if_then_else_}
 use Rattle.measures.proofs.BodyLaws.{letter-class, other-class, piece-room}
-use Rattle.measures.proofs.Walking.{Walking, closed, cyclomatic-found, ended, found, letter-inner, line, lines-found, nesting-found, opened, piece, spaced, start}
+use Rattle.measures.proofs.Cut.{letter-inner}
+use Rattle.measures.proofs.Walking.{Walking, closed, cyclomatic-found, ended, found, line, lines-found, nesting-found, opened, piece, spaced, start}
 use Rattle.measures.proofs.walk_from.Statement.{statement}
 use Rattle.measures.proofs.walk_from.Tie as tie
 
