@@ -348,6 +348,17 @@ pub enum BodyAt {
     Open,
 }
 
+fn closed_at(end: usize, cyclomatic: usize, nesting: usize, lines: usize) -> BodyAt
+    ensures { λ r. ⌜ r ≡ BodyAt.Closed (record { end = end; cyclomatic = cyclomatic; nesting = nesting; lines = lines }) ⌝ }
+{
+    BodyAt::Closed(Body {
+        end,
+        cyclomatic,
+        nesting,
+        lines,
+    })
+}
+
 // The body whose opening brace stands at a place. `depth` counts the braces that are open inside it. The commonest bytes are tested first.
 pub fn walk_from(s: &[u8], from: usize) -> BodyAt
     requires { ⌜ (from < length (now s)) × (getD (now s) from 0 ≡ braceOpen) ⌝ }
@@ -376,12 +387,7 @@ pub fn walk_from(s: &[u8], from: usize) -> BodyAt
             nesting = larger(nesting, depth + 1);
         } else if b == b'}' {
             if depth == 0 {
-                return BodyAt::Closed(Body {
-                    end: at,
-                    cyclomatic: n,
-                    nesting,
-                    lines,
-                });
+                return closed_at(at, n, nesting, lines);
             }
             at += 1;
             depth -= 1;

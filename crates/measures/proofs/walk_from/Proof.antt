@@ -5,6 +5,7 @@ use native.Mathlib.Omega.{arith}
 use borrow.Author.Needs.{needs}
 use lib.ListN.{getD, length}
 use Rattle.text_rules.specs.Bytes.{if_then_else_}
+use Rattle.measures.specs.Walks.{WalkedFrom}
 use Rattle.measures.proofs.BodyLaws.{letter-class, other-class, piece-room}
 use Rattle.measures.proofs.Cut.{letter-inner}
 use Rattle.measures.proofs.Walking.{Walking, closed, cyclomatic-found, ended, found, line, lines-found, nesting-found, opened, piece, spaced, start}
@@ -72,20 +73,21 @@ loop-again-4 c =
 
 returns : tie.Need-returns Inv-loop μ-loop
 returns c =
-    let l = c .before .before .before .before .before .before .before .before .before .before in
+    let f = c .before in
+    let l = f .before .before .before .before .before .before .before .before .before .before in
     let a = l .before .before .before .args in
     let s = a .s .now in
     let v = l .loop in
-    let e = c .before .if5 .taken in
-    let z = c .if6 .taken in
-    record {
+    let e = f .before .if5 .taken in
+    let z = f .if6 .taken in
+    subst (WalkedFrom s (a .from)) (sym (c .closed-at .ensures)) (record {
       end-is = found s (a .from) (v .depth) (v .nesting) (v .lines) (v .n) (v .at) (v .inv) (omega arith) e z;
       measured = record {
         cyclomatic-is = cyclomatic-found s (a .from) (v .depth) (v .nesting) (v .lines) (v .n) (v .at) (v .inv) (omega arith) e z;
         nesting-is = nesting-found s (a .from) (v .depth) (v .nesting) (v .lines) (v .n) (v .at) (v .inv) (omega arith) e z;
         lines-is = lines-found s (a .from) (v .depth) (v .nesting) (v .lines) (v .n) (v .at) (v .inv) (omega arith) e z;
       };
-    }
+    })
 
 loop-again-5 : tie.Need-loop-again-5 Inv-loop μ-loop
 loop-again-5 c =
@@ -153,6 +155,7 @@ walk-from-spec =
     (λ c κs. search needs)
     (λ c. omega arith)
     loop-again-4
+    (λ c κs. search needs)
     returns
     (λ c. omega arith)
     (λ c. omega arith)
