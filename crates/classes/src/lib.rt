@@ -1,6 +1,8 @@
-// The classes of bytes, by one look at a table of 256.
+// The classes of bytes, by one look at a table of 256. The compiler writes a `const` array to the stack where it is used, so a loop is lent a
+// table that was made before it.
 ghost use mathlib.Core.Path.{_≡_};
 ghost use Rattle.text_rules.specs.Classes.{classOf, isLetter, isSpace, isWord};
+ghost use Rattle.classes.specs.Lent.{IsTable};
 
 // 3: an ASCII letter or `_`. 2: a digit. 1: ASCII whitespace. 0: any other byte.
 const CLASSES: [u8; 256] = [
@@ -99,7 +101,7 @@ const CLASSES: [u8; 256] = [
     0,
     0,
     0,
-    3,
+    3, // _
     0,
     3,
     3,
@@ -262,11 +264,27 @@ const CLASSES: [u8; 256] = [
     0,
 ];
 
+// The table, to be lent to a loop.
+pub fn table() -> [u8; 256]
+    ensures { λ r. ⌜ IsTable r ⌝ }
+{
+    CLASSES
+}
+
+// The class of a byte, by a lent table.
+pub fn class_in(table: &[u8; 256], b: u8) -> u8
+    requires { ⌜ IsTable (now table) ⌝ }
+    ensures { λ r. ⌜ r ≡ classOf b ⌝ }
+{
+    table[b as usize]
+}
+
 // The class of a byte.
 pub fn class(b: u8) -> u8
     ensures { λ r. ⌜ r ≡ classOf b ⌝ }
 {
-    CLASSES[b as usize]
+    let t = table();
+    class_in(&t, b)
 }
 
 // An ASCII letter, a digit or `_`.

@@ -1,3 +1,5 @@
 -- Laws that the proofs of several functions cite.
 mod List
-mod Body
+mod BodyLaws
+mod Cut
+mod Walking

@@ -1,18 +1,19 @@
 // What is measured of a function: the parameters of its list, and the cyclomatic number, the nesting and the lines of its body.
-// A list is counted between its first and its last byte that are not of white space. A body is walked twice: byte by byte for nesting and lines,
-// and by whole pieces for the cyclomatic number, so that `iffy` is not read as `if`.
+// A list is counted between its first and its last byte that are not of white space. A body is walked by whole pieces, so that `iffy` is not read
+// as `if`: `walk_from` finds its end and its measures in one pass, `walk` is given a body that was found.
 ghost use mathlib.Core.Path.{_≡_};
-ghost use mathlib.Core.Bool.{_||_};
+ghost use mathlib.Core.Bool.{false, true, _||_};
 ghost use mathlib.Core.List.{[], _∷_};
-ghost use Prim.Native.Nat.{_+_, _-_, _≤_, _<_, max};
+ghost use Prim.Native.Nat.{suc, _+_, _-_, _≤_, _<_, max};
 ghost use lib.Dec.{eqb};
-ghost use lib.ListN.{length, drop};
-ghost use Rattle.text_rules.specs.Bytes.{among, ascii, same};
-ghost use Rattle.text_rules.specs.Classes.{comma, isWord};
+ghost use lib.ListN.{length, drop, getD};
+ghost use Rattle.text_rules.specs.Bytes.{among, ascii, if_then_else_, same};
+ghost use Rattle.text_rules.specs.Classes.{braceOpen, comma, isLetter, isWord};
 ghost use Rattle.text_rules.specs.Search.{endsIn, run, startsWith};
 ghost use Rattle.source_rules.specs.Measures.{cyclomaticOf, isPair};
 ghost use Rattle.source_rules.specs.Parameters.{counted, isClosing, isOpening, one, paramsOf, partsFrom, takesSelf};
-ghost use Rattle.measures.specs.Walks.{Measured, PieceAt, Shaped, head};
+ghost use Rattle.classes.specs.Lent.{IsTable};
+ghost use Rattle.measures.specs.Walks.{Measured, PieceAt, Shaped, WalkedFrom, head};
 
 // Whether a byte is one of two.
 fn either(b: u8, x: u8, y: u8) -> bool
@@ -179,13 +180,13 @@ fn shape_of(body: &[u8]) -> Shape
 }
 
 // The place behind the word that stands at a place.
-fn word_end(s: &[u8], from: usize) -> usize
-    requires { ⌜ from ≤ length (now s) ⌝ }
+fn word_end(table: &[u8; 256], s: &[u8], from: usize) -> usize
+    requires { ⌜ IsTable (now table) × (from ≤ length (now s)) ⌝ }
     ensures { λ r. ⌜ (r ≡ from + run isWord (drop from (now (s .entry)))) × (r ≤ length (now (s .entry))) ⌝ }
 {
     let mut at = from;
     while at < s.len() {
-        if !classes::is_word(s[at]) {
+        if classes::class_in(table, s[at]) < 2 {
             return at;
         }
         at += 1;
@@ -248,20 +249,25 @@ struct Piece {
     decides: bool,
 }
 
-// The piece at a place.
-fn piece_at(body: &[u8], at: usize) -> Piece
-    requires { ⌜ at < length (now body) ⌝ }
-    ensures { λ r. ⌜ PieceAt (now (body .entry)) at r ⌝ }
+// The word at a place where a letter stands.
+fn word_at(table: &[u8; 256], s: &[u8], at: usize) -> Piece
+    requires { ⌜ IsTable (now table) × (at < length (now s)) × (isLetter (getD (now s) at 0) ≡ true) ⌝ }
+    ensures { λ r. ⌜ PieceAt (now (s .entry)) at r ⌝ }
 {
-    let b = body[at];
-    if classes::is_letter(b) {
-        let end = word_end(body, at);
-        return Piece {
-            end,
-            decides: decides_word(&body[at..end]),
-        };
+    let end = word_end(table, s, at);
+    Piece {
+        end,
+        decides: decides_word(&s[at..end]),
     }
-    if is_pair(b, utf8::byte(body, at + 1)) {
+}
+
+// The piece at a place where no letter stands.
+fn mark_at(s: &[u8], at: usize) -> Piece
+    requires { ⌜ (at < length (now s)) × (isLetter (getD (now s) at 0) ≡ false) ⌝ }
+    ensures { λ r. ⌜ PieceAt (now (s .entry)) at r ⌝ }
+{
+    let b = s[at];
+    if is_pair(b, utf8::byte(s, at + 1)) {
         return Piece {
             end: at + 2,
             decides: true,
@@ -273,14 +279,26 @@ fn piece_at(body: &[u8], at: usize) -> Piece
     }
 }
 
+// The piece at a place.
+fn piece_at(table: &[u8; 256], body: &[u8], at: usize) -> Piece
+    requires { ⌜ IsTable (now table) × (at < length (now body)) ⌝ }
+    ensures { λ r. ⌜ PieceAt (now (body .entry)) at r ⌝ }
+{
+    if classes::class_in(table, body[at]) == 3 {
+        return word_at(table, body, at);
+    }
+    mark_at(body, at)
+}
+
 // 1, and 1 for each piece that decides.
 fn cyclomatic(body: &[u8]) -> usize
     ensures { λ r. ⌜ r ≡ cyclomaticOf (now (body .entry)) ⌝ }
 {
+    let table = classes::table();
     let mut n = 1;
     let mut at = 0;
     while at < body.len() {
-        let p = piece_at(body, at);
+        let p = piece_at(&table, body, at);
         at = p.end;
         if p.decides {
             n += 1;
@@ -306,4 +324,78 @@ pub fn walk(body: &[u8]) -> Walked
         nesting: s.nesting,
         lines: s.lines,
     }
+}
+
+// One more where a test passes.
+fn more_one(n: usize, test: bool) -> usize
+    requires { ⌜ n < 18446744073709551615 ⌝ }
+    ensures { λ r. ⌜ r ≡ (if test then suc n else n) ⌝ }
+{
+    if test { n + 1 } else { n }
+}
+
+// The place of a body's closing brace, and the measures from the opening one through it.
+pub struct Body {
+    pub end: usize,
+    pub cyclomatic: usize,
+    pub nesting: usize,
+    pub lines: usize,
+}
+
+// Whether the body that begins at a place is closed.
+pub enum BodyAt {
+    Closed(Body),
+    Open,
+}
+
+fn closed_at(end: usize, cyclomatic: usize, nesting: usize, lines: usize) -> BodyAt
+    ensures { λ r. ⌜ r ≡ BodyAt.Closed (record { end = end; cyclomatic = cyclomatic; nesting = nesting; lines = lines }) ⌝ }
+{
+    BodyAt::Closed(Body {
+        end,
+        cyclomatic,
+        nesting,
+        lines,
+    })
+}
+
+// The body whose opening brace stands at a place. `depth` counts the braces that are open inside it. The commonest bytes are tested first.
+pub fn walk_from(s: &[u8], from: usize) -> BodyAt
+    requires { ⌜ (from < length (now s)) × (getD (now s) from 0 ≡ braceOpen) ⌝ }
+    ensures { λ r. ⌜ WalkedFrom (now (s .entry)) from r ⌝ }
+{
+    let table = classes::table();
+    let mut depth: usize = 0;
+    let mut nesting: usize = 1;
+    let mut lines: usize = 1;
+    let mut n: usize = 1;
+    let mut at = from + 1;
+    while at < s.len() {
+        let b = s[at];
+        if b == b' ' {
+            at += 1;
+        } else if classes::class_in(&table, b) == 3 {
+            let p = word_at(&table, s, at);
+            at = p.end;
+            n = more_one(n, p.decides);
+        } else if b == b'\n' {
+            at += 1;
+            lines += 1;
+        } else if b == b'{' {
+            at += 1;
+            depth += 1;
+            nesting = larger(nesting, depth + 1);
+        } else if b == b'}' {
+            if depth == 0 {
+                return closed_at(at, n, nesting, lines);
+            }
+            at += 1;
+            depth -= 1;
+        } else {
+            let p = mark_at(s, at);
+            at = p.end;
+            n = more_one(n, p.decides);
+        }
+    }
+    BodyAt::Open
 }

@@ -1,6 +1,6 @@
 -- The words are compared in the definition's order, and the first that is the same decides.
 use mathlib.Core.Path.{_∙_, sym}
-use Rattle.measures.proofs.Body.{word-for, word-if, word-loop, word-while}
+use Rattle.measures.proofs.BodyLaws.{word-for, word-if, word-loop, word-while}
 use borrow.Author.Needs.{needs}
 use Rattle.measures.proofs.decides_word.Statement.{statement}
 use Rattle.measures.proofs.decides_word.Tie as tie

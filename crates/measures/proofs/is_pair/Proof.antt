@@ -3,7 +3,7 @@ use mathlib.Core.Path.{sym}
 use borrow.Author.Tests.{ne-eqb}
 use Rattle.text_rules.specs.Search.{opens}
 use Rattle.source_rules.specs.Measures.{isPair}
-use Rattle.measures.proofs.Body.{pair-and, pair-arrow, pair-or}
+use Rattle.measures.proofs.BodyLaws.{pair-and, pair-arrow, pair-or}
 use Rattle.measures.proofs.is_pair.Statement.{statement}
 use Rattle.measures.proofs.is_pair.Tie as tie
 

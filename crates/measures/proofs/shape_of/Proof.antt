@@ -4,7 +4,7 @@ use native.Mathlib.Omega.{arith}
 use lib.ListN.{drop, length}
 use Rattle.source_rules.specs.Measures.{deepest, lineAt, linesOf, nestingOf}
 use Rattle.source_rules.specs.WalkSteps.{deepest-end, line-end}
-use Rattle.measures.proofs.Body.{deepest-close, deepest-open, deepest-other, line-lf, line-other}
+use Rattle.measures.proofs.BodyLaws.{deepest-close, deepest-open, deepest-other, line-lf, line-other}
 use Rattle.measures.proofs.shape_of.Statement.{statement}
 use Rattle.measures.proofs.shape_of.Tie as tie
 

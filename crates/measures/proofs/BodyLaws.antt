@@ -11,7 +11,8 @@ use lib.ListN.{drop, getD, length, length-drop}
 use lib.Seq.{drop-drop, getD-drop}
 use borrow.Author.Tests.{eq-eqb, ne-eqb}
 use Rattle.text_rules.specs.Bytes.{among, ascii, if_then_else_, same}
-use Rattle.text_rules.specs.Classes.{ampersand, angleClose, bar, braceClose, braceOpen, equals, isLetter, isWord, lf, question}
+use Rattle.text_rules.specs.Classes.{ampersand, angleClose, bar, braceClose, braceOpen, classOf, equals, isLetter, isWord, lf, question}
+use Rattle.text_rules.specs.ClassesLaws.{class-letter}
 use Rattle.text_rules.specs.ScanLaws.{head-at, split}
 use Rattle.text_rules.specs.Search.{countAfter, opens, part, run}
 use Rattle.source_rules.specs.Brackets.{depthAfter}
@@ -71,6 +72,14 @@ module _ (s : List ℕ) (at : ℕ) (h : at < length s) where
 
     pub cyclomatic-same : decides (drop at s) ≡ false → cyclomaticFrom n 0 (drop at s) ≡ cyclomaticFrom n 0 (drop (at + pieceLength (drop at s)) s)
     cyclomatic-same e = cyclomatic-jump n ∙ rw e
+
+-- what the class of a byte tells of a letter
+module _ (b k : ℕ) (e : k ≡ classOf b) where
+  pub letter-class : k ≡ 3 → isLetter b ≡ true
+  letter-class t = sym (class-letter b) ∙ eq-eqb (classOf b) 3 (sym e ∙ t)
+
+  pub other-class : k ≢ 3 → isLetter b ≡ false
+  other-class n = sym (class-letter b) ∙ ne-eqb (classOf b) 3 (λ z. n (e ∙ z))
 
 -- the words that decide, tried one after another
 module _ (w : List ℕ) where
