@@ -5,7 +5,9 @@ use mathlib.Core.List.{List, [], _∷_}
 use mathlib.Core.Option.{none, some}
 use lib.ListN.{length, take, drop}
 use Rattle.text_rules.specs.Bytes.{_orElse_}
+use Rattle.text_rules.specs.Classes.{braceClose, braceOpen}
 use Rattle.text_rules.specs.Search.{part}
+use Rattle.source_rules.specs.Brackets.{partner}
 use Rattle.source_rules.specs.Finding.{Places, functionAt, functionFrom, spanLength}
 use Rattle.source_rules.specs.Measures.{cyclomaticOf, linesOf, nestingOf}
 use Rattle.source_rules.specs.Parameters.{paramsOf}
@@ -14,6 +16,8 @@ use Rattle.source_rules.specs.TextScan.{TextFun, functionsFrom, measured}
 use Rattle.source_rules.specs.TextScanLaws.{Fine}
 use Rattle.source_rules.specs.TextScanSteps.{byteBefore}
 use Rattle.search.specs.Place.{Learned}
+use Rattle.measures.specs.Walks.{MeasuredBody}
+use Rattle.source.specs.declared.Block.{Block}
 use Rattle.source.specs.declared.Brackets.{Brackets}
 use Rattle.source.specs.declared.Cursor.{Cursor}
 use Rattle.source.specs.declared.Found.{Found}
@@ -97,6 +101,11 @@ pub record SpanAt (s : List ℕ) (c : Cursor) (r : Span) : Type 0 where
   pub no-span : Spanless s (c .at) (r .spanless)
   pub learned : Learned s (r .learnt)
 
+-- the body whose opening brace stands at a place: where it ends and its measures, or that it is never closed
+abbrev pub Blocked : List ℕ → ℕ → Block → Type 0
+Blocked s at (Block.Closed b v) = (partner braceOpen braceClose 0 (at + 1) (drop (at + 1) s) ≡ some (b .end)) × MeasuredBody b (part at (b .end + 1) s) × Learned s v
+Blocked s at (Block.Open v) = (partner braceOpen braceClose 0 (at + 1) (drop (at + 1) s) ≡ none) × Learned s v
+
 -- the brackets after a name that ends at a place
 pub record Closed (s : List ℕ) (to : ℕ) (b : Brackets) : Type 0 where
   pub name-first : to ≤ b .opened
@@ -105,6 +114,9 @@ pub record Closed (s : List ℕ) (to : ℕ) (b : Brackets) : Type 0 where
   pub body-order : b .body < b .end
   pub inside : b .end < length s
   pub places : (from : ℕ) → functionFrom from to s ≡ some (placesAt from to (b .opened) (b .closed) (b .body) (b .end))
+  pub lines-is : b .lines ≡ linesOf (part (b .body) (b .end + 1) s)
+  pub cyclomatic-is : b .cyclomatic ≡ cyclomaticOf (part (b .body) (b .end + 1) s)
+  pub nesting-is : b .nesting ≡ nestingOf (part (b .body) (b .end + 1) s)
 
 pub record Missing (s : List ℕ) (to n : ℕ) : Type 0 where
   pub none-here : (from : ℕ) → functionFrom from to s ≡ none

@@ -1,17 +1,19 @@
 // The functions of a blanked text, found and measured one after another.
 // The text is gone through byte by byte, bodies and test spans included: a test span may begin inside a body and reach past it, so no body is
 // jumped over.
+use measures::Body;
+use measures::BodyAt;
 use search::Learnt;
 use search::Place;
 ghost use mathlib.Core.Path.{_≡_};
 ghost use mathlib.Core.Logic.{_≢_};
 ghost use mathlib.Core.Bool.{true};
 ghost use Prim.Native.Nat.{_+_, _≤_, _<_};
-ghost use lib.ListN.{length};
-ghost use Rattle.text_rules.specs.Classes.{hash};
+ghost use lib.ListN.{length, getD};
+ghost use Rattle.text_rules.specs.Classes.{braceOpen, hash};
 ghost use Rattle.search.specs.Place.{Learned};
 ghost use Rattle.source_rules.specs.TextScan.{functions};
-ghost use Rattle.source.specs.Cursors.{Barren, Closed, FoundAt, Measures, Ready, Signed, SpanAt, Stepped, Turned, remaining};
+ghost use Rattle.source.specs.Cursors.{Barren, Blocked, Closed, FoundAt, Measures, Ready, Signed, SpanAt, Stepped, Turned, remaining};
 
 // Where the search for functions stands in a text.
 pub struct Cursor {
@@ -46,12 +48,21 @@ pub enum Step {
     End,
 }
 
-// The brackets of a function after its name: those of its list and those of its body.
+// The brackets of a function after its name, those of its list and those of its body, and what is measured of the body.
 struct Brackets {
     opened: usize,
     closed: usize,
     body: usize,
     end: usize,
+    cyclomatic: usize,
+    nesting: usize,
+    lines: usize,
+}
+
+// A body that was sought: where it ends and what is measured of it, or that it is never closed. With it, what was learnt.
+enum Block {
+    Closed(Body, Learnt),
+    Open(Learnt),
 }
 
 // What follows a name: all four brackets; or not all, and then neither after any other name that ends from there up to the given place. With
@@ -80,6 +91,64 @@ enum Turn {
     Past(Cursor),
 }
 
+// Whether every brace that was sought had a partner, and one may stand behind a place.
+fn is_closed_so_far(v: Learnt, at: usize) -> bool {
+    let braces = v.braces;
+    if braces.at != braces.last {
+        return false;
+    }
+    at < braces.at
+}
+
+// The body whose opening brace stands at a place, with its end sought before it is measured.
+fn block_found(s: &[u8], body: usize, v: Learnt) -> Block
+    requires { ⌜ (body < length (now s)) × Learned (now s) v ⌝ }
+    ensures { λ r. ⌜ Blocked (now (s .entry)) body r ⌝ }
+{
+    let found = search::block_end(s, body + 1, v);
+    let w = found.learnt;
+    let place = found.place;
+    let Place::At(end) = place else {
+        return Block::Open(w);
+    };
+    let to = end + 1;
+    let m = measures::walk(&s[body..to]);
+    Block::Closed(
+        Body {
+            end,
+            cyclomatic: m.cyclomatic,
+            nesting: m.nesting,
+            lines: m.lines,
+        },
+        w,
+    )
+}
+
+// The body whose opening brace stands at a place. As long as every brace has a partner, it is measured on the way to its end.
+fn block_at(s: &[u8], body: usize, v: Learnt) -> Block
+    requires { ⌜ (body < length (now s)) × (getD (now s) body 0 ≡ braceOpen) × Learned (now s) v ⌝ }
+    ensures { λ r. ⌜ Blocked (now (s .entry)) body r ⌝ }
+{
+    if is_closed_so_far(v, body) {
+        let walked = measures::walk_from(&s[body..], 0);
+        match walked {
+            BodyAt::Closed(b) => {
+                return Block::Closed(
+                    Body {
+                        end: body + b.end,
+                        cyclomatic: b.cyclomatic,
+                        nesting: b.nesting,
+                        lines: b.lines,
+                    },
+                    v,
+                );
+            }
+            BodyAt::Open => {}
+        }
+    }
+    block_found(s, body, v)
+}
+
 // The brackets after a name that ends at `to`.
 fn signature_at(s: &[u8], to: usize, v: Learnt) -> Signature
     requires { ⌜ Learned (now s) v ⌝ }
@@ -101,21 +170,22 @@ fn signature_at(s: &[u8], to: usize, v: Learnt) -> Signature
     let Place::At(body) = brace else {
         return Signature::Broken(inside, second);
     };
-    let block = search::block_end(s, body + 1, second);
-    let third = block.learnt;
-    let last = block.place;
-    let Place::At(end) = last else {
-        return Signature::Broken(inside, third);
-    };
-    Signature::Whole(
-        Brackets {
-            opened,
-            closed,
-            body,
-            end,
-        },
-        third,
-    )
+    let block = block_at(s, body, second);
+    match block {
+        Block::Open(w) => Signature::Broken(inside, w),
+        Block::Closed(b, w) => Signature::Whole(
+            Brackets {
+                opened,
+                closed,
+                body,
+                end: b.end,
+                cyclomatic: b.cyclomatic,
+                nesting: b.nesting,
+                lines: b.lines,
+            },
+            w,
+        ),
+    }
 }
 
 // The function on a line whose name stands from one place up to another.
@@ -126,16 +196,13 @@ fn found_at(s: &[u8], line: usize, from: usize, to: usize, b: Brackets) -> Found
     let params_from = b.opened + 1;
     let params_to = b.closed;
     let params = measures::count_params(&s[params_from..params_to]);
-    let body_from = b.body;
-    let body_to = b.end + 1;
-    let w = measures::walk(&s[body_from..body_to]);
     Found {
         name_at: from,
         name_len: to - from,
         line,
-        lines: w.lines,
-        cyclomatic: w.cyclomatic,
-        nesting: w.nesting,
+        lines: b.lines,
+        cyclomatic: b.cyclomatic,
+        nesting: b.nesting,
         params,
     }
 }

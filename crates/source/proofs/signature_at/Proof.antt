@@ -1,20 +1,30 @@
 -- `source::signature_at` meets its contract: each search tells whether its bracket is there, and the rules have one law for each that may be
 -- missing and one for all four.
-use Prim.Native.Nat.{_+_}
-use mathlib.Core.Path.{_≡_, ap, sym, _∙_}
+use Prim.Native.Nat.{ℕ, _+_, _-_, _≤_}
+use mathlib.Core.Path.{_≡_, ap, subst, sym, _∙_}
+use mathlib.Core.List.{List}
 use mathlib.Core.Option.{none, some}
 use native.Mathlib.Omega.{arith}
 use borrow.Author.Needs.{needs}
-use lib.ListN.{drop}
+use lib.ListN.{drop, getD}
+use lib.Seq.{getD-drop}
 use Rattle.text_rules.specs.Classes.{braceClose, braceOpen, roundClose, roundOpen}
 use Rattle.text_rules.specs.Search.{find}
 use Rattle.source_rules.specs.Brackets.{partner}
 use Rattle.source_rules.specs.Finding.{bodyAt}
+use Rattle.source_rules.specs.FindingLaws.{body-brace}
 use Rattle.source_rules.specs.PlaceLaws.{body-place, find-place, no-body, no-list, open-body, open-list, partner-place, whole}
 use Rattle.search.specs.Place.{placeOf}
-use Rattle.source.specs.Cursors.{Barren}
+use Rattle.source.specs.Cursors.{Barren, Blocked}
+use Rattle.source.specs.declared.Block.{Block}
 use Rattle.source.proofs.signature_at.Statement.{statement}
 use Rattle.source.proofs.signature_at.Tie as tie
+
+-- the byte at the place is a brace
+brace-there : (s : List ℕ) (at body : ℕ) → at ≤ body → bodyAt 0 0 0 at (drop at s) ≡ some body → getD s body 0 ≡ braceOpen
+brace-there s at body h e =
+    let k : at + (body - at) ≡ body = omega arith in
+    ap (λ i. getD s i 0) (sym k) ∙ sym (getD-drop at s (body - at) 0) ∙ body-brace 0 0 0 at (drop at s) (body - at) (e ∙ ap some (sym k))
 
 returns : tie.Need-returns
 unfolding Barren
@@ -84,8 +94,8 @@ returns-3 c =
     let gone = no-body (a .s .now) (a .to) opened e₁ closed e₂ e in
     (record { none-here = λ from. gone from (a .to) (omega arith) (omega (arith, find-place (a .s .now) (a .to) opened roundOpen e₁)); no-function = gone }, c .before .before .before .body-after .ensures .1)
 
-add-block-end : tie.Need-add-block-end
-add-block-end c =
+block-at-requires : tie.Need-block-at-requires
+block-at-requires c κs =
     let b = c .before .before .before .before .before .before .before .before .before .before .before .before .before .before .before in
     let a = b .args in
     let opened = c .before .before .before .before .before .before .before .before .before .before .before .opened .given .0 .0 in
@@ -94,19 +104,8 @@ add-block-end c =
     let e₂ : partner roundOpen roundClose 0 (opened + 1) (drop (opened + 1) (a .s .now)) ≡ some closed = sym (c .before .before .before .before .before .before .before .before .before .list-end .ensures .0) ∙ ap placeOf (c .before .before .before .before .before .before .close .given .1) in
     let body = c .before .brace .given .0 .0 in
     let e₃ : bodyAt 0 0 0 (closed + 1) (drop (closed + 1) (a .s .now)) ≡ some body = sym (c .before .before .before .before .body-after .ensures .0) ∙ ap placeOf (c .before .brace .given .1) in
-    omega (arith, body-place (a .s .now) (closed + 1) body e₃)
-
-block-end-requires : tie.Need-block-end-requires
-block-end-requires c κs =
-    let b = c .before .before .before .before .before .before .before .before .before .before .before .before .before .before .before in
-    let a = b .args in
-    let opened = c .before .before .before .before .before .before .before .before .before .before .before .opened .given .0 .0 in
-    let e₁ : find roundOpen (a .to) (drop (a .to) (a .s .now)) ≡ some opened = sym (c .before .before .before .before .before .before .before .before .before .before .before .before .before .find .ensures) ∙ ap placeOf (c .before .before .before .before .before .before .before .before .before .before .before .opened .given .1) in
-    let closed = c .before .before .before .before .before .before .close .given .0 .0 in
-    let e₂ : partner roundOpen roundClose 0 (opened + 1) (drop (opened + 1) (a .s .now)) ≡ some closed = sym (c .before .before .before .before .before .before .before .before .before .list-end .ensures .0) ∙ ap placeOf (c .before .before .before .before .before .before .close .given .1) in
-    let body = c .before .brace .given .0 .0 in
-    let e₃ : bodyAt 0 0 0 (closed + 1) (drop (closed + 1) (a .s .now)) ≡ some body = sym (c .before .before .before .before .body-after .ensures .0) ∙ ap placeOf (c .before .brace .given .1) in
-    (omega (arith, body-place (a .s .now) (closed + 1) body e₃), c .before .before .before .before .body-after .ensures .1)
+    let i = body-place (a .s .now) (closed + 1) body e₃ in
+    (i .1, brace-there (a .s .now) (closed + 1) body (i .0) e₃, c .before .before .before .before .body-after .ensures .1)
 
 returns-4 : tie.Need-returns-4
 unfolding Barren
@@ -119,28 +118,38 @@ returns-4 c =
     let e₂ : partner roundOpen roundClose 0 (opened + 1) (drop (opened + 1) (a .s .now)) ≡ some closed = sym (c .before .before .before .before .before .before .before .before .before .before .before .before .before .list-end .ensures .0) ∙ ap placeOf (c .before .before .before .before .before .before .before .before .before .before .close .given .1) in
     let body = c .before .before .before .before .before .brace .given .0 .0 in
     let e₃ : bodyAt 0 0 0 (closed + 1) (drop (closed + 1) (a .s .now)) ≡ some body = sym (c .before .before .before .before .before .before .before .before .body-after .ensures .0) ∙ ap placeOf (c .before .before .before .before .before .brace .given .1) in
-    let e : partner braceOpen braceClose 0 (body + 1) (drop (body + 1) (a .s .now)) ≡ none = sym (c .before .before .before .block-end .ensures .0) ∙ ap placeOf (c .enum-told4 .given .1) in
-    let gone = open-body (a .s .now) (a .to) opened e₁ closed e₂ body e₃ e in
-    (record { none-here = λ from. gone from (a .to) (omega arith) (omega (arith, find-place (a .s .now) (a .to) opened roundOpen e₁)); no-function = gone }, c .before .before .before .block-end .ensures .1)
+    let k : Blocked (a .s .now) body (Block.Open _) = subst (Blocked (a .s .now) body) (c .before .block .given .1) (c .before .before .before .block-at .ensures) in
+    let gone = open-body (a .s .now) (a .to) opened e₁ closed e₂ body e₃ (k .0) in
+    (record { none-here = λ from. gone from (a .to) (omega arith) (omega (arith, find-place (a .s .now) (a .to) opened roundOpen e₁)); no-function = gone }, k .1)
 
 returns-5 : tie.Need-returns-5
 returns-5 c =
-    let b = c .before .before .before .before .before .before .before .before .before .before .before .before .before .before .before .before .before .before .before .before in
+    let b = c .before .before .before .before .before .before .before .before .before .before .before .before .before .before .before .before .before .before .before in
     let a = b .args in
-    let opened = c .before .before .before .before .before .before .before .before .before .before .before .before .before .before .before .before .opened .given .0 .0 in
-    let e₁ : find roundOpen (a .to) (drop (a .to) (a .s .now)) ≡ some opened = sym (c .before .before .before .before .before .before .before .before .before .before .before .before .before .before .before .before .before .before .find .ensures) ∙ ap placeOf (c .before .before .before .before .before .before .before .before .before .before .before .before .before .before .before .before .opened .given .1) in
-    let closed = c .before .before .before .before .before .before .before .before .before .before .before .close .given .0 .0 in
-    let e₂ : partner roundOpen roundClose 0 (opened + 1) (drop (opened + 1) (a .s .now)) ≡ some closed = sym (c .before .before .before .before .before .before .before .before .before .before .before .before .before .before .list-end .ensures .0) ∙ ap placeOf (c .before .before .before .before .before .before .before .before .before .before .before .close .given .1) in
-    let body = c .before .before .before .before .before .before .brace .given .0 .0 in
-    let e₃ : bodyAt 0 0 0 (closed + 1) (drop (closed + 1) (a .s .now)) ≡ some body = sym (c .before .before .before .before .before .before .before .before .before .body-after .ensures .0) ∙ ap placeOf (c .before .before .before .before .before .before .brace .given .1) in
-    let end = c .before .last .given .0 .0 in
-    let e₄ : partner braceOpen braceClose 0 (body + 1) (drop (body + 1) (a .s .now)) ≡ some end = sym (c .before .before .before .before .block-end .ensures .0) ∙ ap placeOf (c .before .last .given .1) in
+    let opened = c .before .before .before .before .before .before .before .before .before .before .before .before .before .before .before .opened .given .0 .0 in
+    let e₁ : find roundOpen (a .to) (drop (a .to) (a .s .now)) ≡ some opened = sym (c .before .before .before .before .before .before .before .before .before .before .before .before .before .before .before .before .before .find .ensures) ∙ ap placeOf (c .before .before .before .before .before .before .before .before .before .before .before .before .before .before .before .opened .given .1) in
+    let closed = c .before .before .before .before .before .before .before .before .before .before .close .given .0 .0 in
+    let e₂ : partner roundOpen roundClose 0 (opened + 1) (drop (opened + 1) (a .s .now)) ≡ some closed = sym (c .before .before .before .before .before .before .before .before .before .before .before .before .before .list-end .ensures .0) ∙ ap placeOf (c .before .before .before .before .before .before .before .before .before .before .close .given .1) in
+    let body = c .before .before .before .before .before .brace .given .0 .0 in
+    let e₃ : bodyAt 0 0 0 (closed + 1) (drop (closed + 1) (a .s .now)) ≡ some body = sym (c .before .before .before .before .before .before .before .before .body-after .ensures .0) ∙ ap placeOf (c .before .before .before .before .before .brace .given .1) in
+    let k : Blocked (a .s .now) body (Block.Closed _ _) = subst (Blocked (a .s .now) body) (c .before .block2 .given .1) (c .before .before .before .block-at .ensures) in
+    let end = c .before .block2 .given .0 .0 .end in
     let i₁ = find-place (a .s .now) (a .to) opened roundOpen e₁ in
     let i₂ = partner-place (a .s .now) (opened + 1) closed roundOpen roundClose e₂ in
     let i₃ = body-place (a .s .now) (closed + 1) body e₃ in
-    let i₄ = partner-place (a .s .now) (body + 1) end braceOpen braceClose e₄ in (
-      record { name-first = i₁ .0; list-order = omega arith; list-first = omega arith; body-order = omega arith; inside = i₄ .1; places = whole (a .s .now) (a .to) opened e₁ closed e₂ body e₃ end e₄ },
-      c .before .before .before .before .block-end .ensures .1,
+    let i₄ = partner-place (a .s .now) (body + 1) end braceOpen braceClose (k .0) in (
+      record {
+        name-first = i₁ .0;
+        list-order = omega arith;
+        list-first = omega arith;
+        body-order = omega arith;
+        inside = i₄ .1;
+        places = whole (a .s .now) (a .to) opened e₁ closed e₂ body e₃ end (k .0);
+        lines-is = k .1 .lines-is;
+        cyclomatic-is = k .1 .cyclomatic-is;
+        nesting-is = k .1 .nesting-is;
+      },
+      k .2,
     )
 
 pub signature-at-spec : {M : Type 1} → statement M
@@ -161,8 +170,7 @@ signature-at-spec =
     (λ c. search needs)
     (λ c. search needs)
     returns-3
-    add-block-end
-    block-end-requires
+    block-at-requires
     (λ c. search needs)
     (λ c. search needs)
     returns-4
