@@ -20,11 +20,11 @@ module _ {B : Type 0} where
   lastOf (x ∷ []) = some x
   lastOf (x ∷ y ∷ ys) = lastOf (y ∷ ys)
 
-  front-in : (xs ys : List B) {z : B} → z ∈ xs → z ∈ xs ++ ys
+  pub front-in : (xs ys : List B) {z : B} → z ∈ xs → z ∈ xs ++ ys
   front-in (x ∷ xs) ys (List·Memᴰ·head q) = List·Memᴰ·head q
   front-in (x ∷ xs) ys (List·Memᴰ·tail m) = List·Memᴰ·tail (front-in xs ys m)
 
-  back-in : (xs ys : List B) {z : B} → z ∈ ys → z ∈ xs ++ ys
+  pub back-in : (xs ys : List B) {z : B} → z ∈ ys → z ∈ xs ++ ys
   back-in [] ys m = m
   back-in (x ∷ xs) ys m = List·Memᴰ·tail (back-in xs ys m)
 

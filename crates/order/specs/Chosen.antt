@@ -75,7 +75,7 @@ module _ {A : Type 0} (less : A → A → Bool) (orders : Orders less) (d : A) (
     first-tied e f = rw (e, f)
 
   -- of two elements one goes first, or they are the same
-  other-first : (k j : ℕ) → goesFirst k j ≡ false → (item k ≡ item j) ⊎ (goesFirst j k ≡ true)
+  pub other-first : (k j : ℕ) → goesFirst k j ≡ false → (item k ≡ item j) ⊎ (goesFirst j k ≡ true)
   other-first k j a =
       elim (whether (less (getD xs j d) (getD xs k d))) [
         | inl e ↦ inr (first-less j k e)
@@ -97,7 +97,7 @@ module _ {A : Type 0} (less : A → A → Bool) (orders : Orders less) (d : A) (
   choice-none : (k : ℕ) → k ≡ length xs → choice k ≡ none
   choice-none k e = rw (eq-eqb k (length xs) e)
 
-  choice-some : (k : ℕ) → (k ≡ length xs → ⊥) → choice k ≡ some (item k)
+  pub choice-some : (k : ℕ) → (k ≡ length xs → ⊥) → choice k ≡ some (item k)
   choice-some k n = rw (ne-eqb k (length xs) n)
 
   module _ (test : A → Bool) where

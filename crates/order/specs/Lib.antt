@@ -1,3 +1,4 @@
 pub mod Best
 pub mod Picks
 pub mod Chosen
+pub mod Tied

@@ -86,7 +86,7 @@ module _ {A : Type 0} (less : A → A → Bool) (orders : Orders less) where
         | inr e ↦ omega (arith, ltb-true (p .at) (q .at) (and-right (not (less (q .what) (p .what))) _ e))
       ]
 
-  ahead-cases : (p q : Placed A) → ahead less orders p q ≡ true → (less (p .what) (q .what) ≡ true) ⊎ ((less (q .what) (p .what) ≡ false) × (p .at < q .at))
+  pub ahead-cases : (p q : Placed A) → ahead less orders p q ≡ true → (less (p .what) (q .what) ≡ true) ⊎ ((less (q .what) (p .what) ≡ false) × (p .at < q .at))
   unfolding ahead
   ahead-cases p q h =
       elim (or-cases (less (p .what) (q .what)) _ h) [

@@ -1,14 +1,17 @@
 -- The rows of the report, taken one after another: the order of the functions by their number, and what is still to be written.
 use Prim.Native.Nat.{ℕ, _+_, _-_, _≤_, _<_}
-use mathlib.Core.Path.{_≡_, refl, ap, sym, _∙_}
-use mathlib.Core.Logic.{⊎-elim}
+use mathlib.Core.Path.{_≡_, refl, ap, subst, sym, _∙_}
+use mathlib.Core.Logic.{inl, inr, ⊎-elim}
 use mathlib.Core.Bool.{Bool, true, false}
 use mathlib.Core.List.{List, [], _∷_, _++_}
 use native.Mathlib.Nat.{eq-or-lt-of-le}
 use native.Mathlib.Omega.{arith}
 use lib.ListN.{length, drop, getD, length-drop, length-take}
-use borrow.Author.Tests.{le-ltb, lt-ltb, eq-eqb, ne-eqb}
-use Rattle.text_rules.specs.Bytes.{before}
+use borrow.Author.Tests.{le-ltb, lt-ltb, eq-eqb, ltb-false, ltb-true, ne-eqb}
+use lib.Dec.{ltb}
+use Rattle.text_rules.specs.ByteOrder.{before-orders, before-total}
+use Rattle.text_rules.specs.Bytes.{before, same}
+use Rattle.text_rules.specs.BytesLaws.{same-refl, same-true, true-false, whether}
 use Rattle.text_rules.specs.Search.{part}
 use Rattle.text_rules.specs.Selection.{Placed, placedFrom}
 use Rattle.gate_rules.specs.Functions.{Fun, Limits, over}
@@ -53,6 +56,35 @@ module _ (f g : Fun) where
   pub worse-same : f .cyclomatic ≡ g .cyclomatic → worse f g ≡ before (f .path) (g .path)
   unfolding worse
   worse-same e = rw (le-ltb (g .cyclomatic) (f .cyclomatic) (omega arith), eq-eqb (f .cyclomatic) (g .cyclomatic) e)
+
+-- a function is over a limit and ties with another: neither is the worse one
+abbrev pub Alike : Limits → Fun → Fun → Type 0
+Alike L g f = (over L f ≡ true) × (worse g f ≡ false) × (worse f g ≡ false)
+
+module _ (L : Limits) (g f : Fun) where
+  -- with another number of branches they do not tie
+  pub other-branches : (f .cyclomatic ≡ g .cyclomatic → ⊥) → Alike L g f → ⊥
+  other-branches n (o, a, b) =
+      elim (whether (ltb (g .cyclomatic) (f .cyclomatic))) [
+        | inl e ↦ true-false _ (worse-more f g (ltb-true (g .cyclomatic) (f .cyclomatic) e)) b
+        | inr e ↦ true-false _ (worse-more g f (let l : f .cyclomatic ≤ g .cyclomatic = ltb-false (g .cyclomatic) (f .cyclomatic) e in omega (arith, n))) a
+      ]
+
+  module _ (e : f .cyclomatic ≡ g .cyclomatic) where
+    -- with the same number they tie where their paths are the same
+    pub same-path : over L f ≡ true → same (g .path) (f .path) ≡ true → Alike L g f
+    same-path o s =
+        let p : g .path ≡ f .path = same-true (g .path) (f .path) s in
+        let once : before (g .path) (g .path) ≡ false = irreflexive (g .path) in
+        (o, worse-same g f (sym e) ∙ subst (λ q. before (g .path) q ≡ false) p once, worse-same f g e ∙ subst (λ q. before q (g .path) ≡ false) p once)
+      where
+        irreflexive : (s : List ℕ) → before s s ≡ false
+        irreflexive s = elim (whether (before s s)) [ inl h ↦ absurd (before-orders .asym s s h h) | inr h ↦ h ]
+
+    pub other-path : same (g .path) (f .path) ≡ false → Alike L g f → ⊥
+    other-path s (o, a, b) =
+        let p : g .path ≡ f .path = before-total (g .path) (f .path) (sym (worse-same g f (sym e)) ∙ a) (sym (worse-same f g e) ∙ b) in
+        true-false _ (subst (λ q. same (g .path) q ≡ true) p (same-refl (g .path))) s
 
 module _ (fs : List Fun) where
   abbrev pub rowFirst : ℕ → ℕ → Bool

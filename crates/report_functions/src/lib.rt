@@ -1,5 +1,6 @@
 // The report's functions: what is counted over all of them, and the rows of those over the limits, the worst first.
 ghost use mathlib.Core.Path.{_≡_};
+ghost use mathlib.Core.Logic.{_≢_};
 ghost use mathlib.Core.List.{List, [], _∷_, _++_};
 ghost use Prim.Native.Nat.{ℕ, _+_, _≤_, _<_};
 ghost use lib.ListN.{length, getD};
@@ -11,7 +12,7 @@ ghost use Rattle.gate_rules.specs.Report.{reportRow, reportRows, reported, wors
 ghost use Rattle.gate_rules.specs.Scan.{functionsOf};
 ghost use Rattle.functions.specs.Shown.{Lies, Stand, limitsOf, noFun, shown};
 ghost use Rattle.order.specs.Chosen.{Decides};
-ghost use Rattle.report_functions.specs.Rows.{RowChosen, RowFit, measuresOf, rowAt, rowFirst};
+ghost use Rattle.report_functions.specs.Rows.{Alike, RowChosen, RowFit, measuresOf, rowAt, rowFirst};
 ghost use Rattle.report_functions.specs.Counting.{Counted, Told};
 use functions::Function;
 use functions::Limits;
@@ -143,8 +144,42 @@ fn better(
     best
 }
 
-// The next row behind the last one written; `n` where there is none.
-fn next_row(tree: &[u8], lent: &[u8], n: usize, limits: Limits, last: usize) -> usize
+// The function f is over a limit, and neither it nor g is the worse one: it has as many branches and the same path.
+fn is_tied(tree: &[u8], limits: Limits, g: Function, f: Function) -> bool
+    requires { ⌜ Lies (now tree) g × Lies (now tree) f ⌝ }
+    ensures { λ r. ⌜ Decides (Alike (limitsOf limits) (shown (now (tree .entry)) g) (shown (now (tree .entry)) f)) r ⌝ }
+{
+    if f.cyclomatic != g.cyclomatic {
+        return false;
+    }
+    if !functions::is_over(limits, f) {
+        return false;
+    }
+    order::same_bytes(path_of(tree, g), path_of(tree, f))
+}
+
+// The next row behind the last one written, where it ties with that: the first such function that follows in scan order. `n` where none does.
+fn next_tied(tree: &[u8], lent: &[u8], n: usize, limits: Limits, last: usize) -> usize
+    requires { ⌜ Stand (now tree) (now lent) × (n ≡ length (functionsOf gate (now tree))) × (last < n) ⌝ }
+    ensures { λ r. ⌜
+        (r ≤ n)
+        × (r ≢ n → RowChosen (functionsOf gate (now (tree .entry))) (limitsOf limits) last (placedFrom 0 (functionsOf gate (now (tree .entry)))) r)
+        ⌝ }
+{
+    let g = functions::function_at(tree, lent, last);
+    let mut k = last + 1;
+    while k < n {
+        let f = functions::function_at(tree, lent, k);
+        if is_tied(tree, limits, g, f) {
+            return k;
+        }
+        k += 1;
+    }
+    n
+}
+
+// The next row behind the last one written, sought among all functions; `n` where there is none.
+fn next_of_all(tree: &[u8], lent: &[u8], n: usize, limits: Limits, last: usize) -> usize
     requires { ⌜ Stand (now tree) (now lent) × (n ≡ length (functionsOf gate (now tree))) × (last ≤ n) ⌝ }
     ensures { λ r. ⌜ (r ≤ n) × RowChosen (functionsOf gate (now (tree .entry))) (limitsOf limits) last (placedFrom 0 (functionsOf gate (now (tree .entry)))) r ⌝ }
 {
@@ -155,6 +190,21 @@ fn next_row(tree: &[u8], lent: &[u8], n: usize, limits: Limits, last: usize) -> 
         k += 1;
     }
     best
+}
+
+// The next row behind the last one written; `n` where there is none. Rows that tie follow each other in scan order, so all functions are gone through
+// only once for each number of branches and path.
+fn next_row(tree: &[u8], lent: &[u8], n: usize, limits: Limits, last: usize) -> usize
+    requires { ⌜ Stand (now tree) (now lent) × (n ≡ length (functionsOf gate (now tree))) × (last ≤ n) ⌝ }
+    ensures { λ r. ⌜ (r ≤ n) × RowChosen (functionsOf gate (now (tree .entry))) (limitsOf limits) last (placedFrom 0 (functionsOf gate (now (tree .entry)))) r ⌝ }
+{
+    if last < n {
+        let k = next_tied(tree, lent, n, limits, last);
+        if k != n {
+            return k;
+        }
+    }
+    next_of_all(tree, lent, n, limits, last)
 }
 
 // What is counted over the functions: those over the limits, the bytes of their rows, and the cyclomatic numbers of all.
