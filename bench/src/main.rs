@@ -51,14 +51,6 @@ impl Call {
             Call::Report => "report",
         }
     }
-
-    fn there(self) -> bool {
-        match self {
-            Call::Check => cfg!(has_check),
-            Call::Report => cfg!(has_report),
-            _ => true,
-        }
-    }
 }
 
 /// The library's buffers, lent again to each call.
@@ -198,7 +190,7 @@ fn main() {
     std::println!("| Input | Call | Port, ms | Original, ms | Port / original | Lowest to highest | Runs |");
     std::println!("|---|---|---|---|---|---|---|");
     for (calls, make) in &rows {
-        for &call in calls.iter().filter(|c| c.there()) {
+        for &call in *calls {
             row(call, make, &mut buffers);
         }
     }
