@@ -117,6 +117,9 @@ fn plain(files: &[(&str, &str)]) -> Vec<Plain> {
     files.iter().map(|(path, text)| (path.as_bytes().to_vec(), text.as_bytes().to_vec())).collect()
 }
 
+/// Longer than any buffer of these cases: so much less leaves none of it.
+const ALL: i64 = 1 << 40;
+
 /// One tree with every choice of buffers that are too short, which shows which refusal comes first.
 fn rooms(list: &mut List) {
     let grown =
@@ -132,14 +135,14 @@ fn rooms(list: &mut List) {
             Slack { work: less(0, 1), counts: less(1, 1), records: less(2, 32), output: less(3, 1) },
         );
     }
-    for by in [7, 64, -i64::from(i32::MAX)] {
+    for by in [7, 64, -ALL] {
         list.calls(tree.clone(), baseline, Slack { work: by, counts: by, records: by, output: by });
     }
     list.calls(tree.clone(), baseline, Slack { records: -1, ..Slack::default() });
     list.calls(tree.clone(), b"src/b.rs\twide\t1\t1\n#\xff\n", Slack::default());
     list.calls(tree, b"", Slack::default());
     for text in [grown, ""] {
-        for by in [0, 1, 30, -1, -i64::from(i32::MAX)] {
+        for by in [0, 1, 30, -1, -ALL] {
             list.blank(text.as_bytes(), by);
         }
     }
