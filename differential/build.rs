@@ -1,9 +1,7 @@
-//! Makes the original a module and links the proved library. Calls that the library has are compared: `has_CALL` is set for each.
+//! Makes the original a module and links the proved library.
 
 use std::path::{Path, PathBuf};
 use std::process::{exit, Command};
-
-const CALLS: [&str; 5] = ["blank", "scan", "check", "update", "report"];
 
 fn main() {
     let root = Path::new(env!("CARGO_MANIFEST_DIR")).parent().expect("the project").to_path_buf();
@@ -26,14 +24,7 @@ fn main() {
     let module = format!("#[allow(dead_code)]\n#[path = {:?}]\nmod oracle;\n", made.display().to_string());
     std::fs::write(out.join("module.rs"), module).expect("the module is written");
 
-    let bytes = std::fs::read(&library).expect("target/staticlib/libcomplexity.a, written by rt staticlib complexity");
-    for call in CALLS {
-        std::println!("cargo:rustc-check-cfg=cfg(has_{call})");
-        let name = format!("complexity_{call}\0").into_bytes();
-        if bytes.windows(name.len()).any(|part| part == name) {
-            std::println!("cargo:rustc-cfg=has_{call}");
-        }
-    }
+    assert!(library.is_file(), "{} is missing: run `rt staticlib complexity` first", library.display());
     std::println!("cargo:rustc-link-search=native={}", library.parent().expect("a folder").display());
     std::println!("cargo:rustc-link-lib=static=complexity");
 }

@@ -1,5 +1,5 @@
-//! Times of the proved library and of the Rust original, in one process: `bench ROOT` prints a table in Markdown. README.md says what is
-//! measured. Exit status 1 where the two sides give other bytes.
+//! Times of the proved library and of the Rust original, in one process: `bench ROOT [FILTER]` prints a table in Markdown. README.md says what is
+//! measured. Exit status 1 where the two sides give other bytes, 2 where the original or a row for the filter is missing.
 
 use std::hint::black_box;
 use std::path::PathBuf;
@@ -30,7 +30,7 @@ use library::Slices;
 use measure::Row;
 use model::{MAX_BASELINE, MAX_FUNCTIONS, RECORD_WIDTH};
 use oracle::Fun;
-use workloads::{Load, Real};
+use workloads::{Input, Load, Real};
 
 #[derive(Clone, Copy, PartialEq, Eq)]
 pub enum Call {
@@ -49,14 +49,6 @@ impl Call {
             Call::Check => "check",
             Call::Update => "update",
             Call::Report => "report",
-        }
-    }
-
-    fn there(self) -> bool {
-        match self {
-            Call::Check => cfg!(has_check),
-            Call::Report => cfg!(has_report),
-            _ => true,
         }
     }
 }
@@ -137,22 +129,23 @@ fn agree(call: Call, load: &Load, b: &mut Buffers) {
 }
 
 /// What to say of a side that would take too long.
-fn foreseen(is_port: bool, call: Call, make: &dyn Fn(usize) -> Load, b: &mut Buffers) -> Option<String> {
+fn foreseen(is_port: bool, call: Call, input: &Input, b: &mut Buffers) -> Option<String> {
     measure::foreseen(&mut |divisor| {
-        let load = make(divisor);
+        let load = input.made(divisor);
         let taken = measure::seconds(|| if is_port { port(call, &load, b) } else { original_call(call, &load) });
         memory::printed();
         taken
     })
 }
 
-fn row(call: Call, make: &dyn Fn(usize) -> Load, b: &mut Buffers) {
-    let too_long = (foreseen(true, call, make, b), foreseen(false, call, make, b));
+fn row(call: Call, input: &Input, b: &mut Buffers) {
+    let too_long = (foreseen(true, call, input, b), foreseen(false, call, input, b));
     let divisor = if too_long == (None, None) { 1 } else { 32 };
-    agree(call, &make(divisor), b);
-    let load = make(1);
+    agree(call, &input.made(divisor), b);
+    let load = input.made(1);
     let mut row = Row::default();
-    while row.wanted() {
+    let some = too_long.0.is_none() || too_long.1.is_none();
+    while some && row.wanted() {
         if too_long.0.is_none() {
             row.port.push(measure::seconds(|| port(call, &load, b)));
         }
@@ -164,6 +157,39 @@ fn row(call: Call, make: &dyn Fn(usize) -> Load, b: &mut Buffers) {
     std::println!("| {} | {} | {}", load.name, call.text(), row.cells(&too_long.0, &too_long.1));
 }
 
+/// The rows of the table, in order.
+fn rows(real: &Real) -> Vec<(Input<'_>, Call)> {
+    let all = [Call::Blank, Call::Scan, Call::Check, Call::Update, Call::Report];
+    let whole = &all[1..];
+    let mut rows = Vec::new();
+    for size in [250_000, 1_000_000, 4_000_000, 16_000_000] {
+        rows.extend(all.map(|call| (Input::Real(real, size), call)));
+    }
+    rows.push((Input::OneBody(real), Call::Scan));
+    for over in [false, true] {
+        rows.extend(whole.iter().map(|&call| (Input::Tiny { over }, call)));
+    }
+    rows.push((Input::Alive, Call::Check));
+    rows.push((Input::Stale, Call::Check));
+    for piece in ["fn a(", "fn a(){", "#[cfg(test)]{", "fn a(){{}"] {
+        rows.push((Input::Unclosed(piece), Call::Scan));
+    }
+    rows
+}
+
+/// The rows whose name, which is that of the input and of the call, holds the filter. None: the names are told.
+fn wanted<'a>(real: &'a Real, filter: &str) -> Vec<(Input<'a>, Call)> {
+    let named = |(input, call): &(Input, Call)| format!("{}, {}", input.name(), call.text());
+    let rows = rows(real);
+    if !rows.iter().any(|row| named(row).contains(filter)) {
+        eprintln!("bench: no row's name holds '{filter}'. The rows:");
+        for row in &rows {
+            eprintln!("  {}", named(row));
+        }
+    }
+    rows.into_iter().filter(|row| named(row).contains(filter)).collect()
+}
+
 fn main() {
     let root = PathBuf::from(std::env::args().nth(1).expect("the project's root"));
     let Some(sources) = sources::read(&root) else {
@@ -171,36 +197,22 @@ fn main() {
         std::process::exit(2);
     };
     let real = Real::new(&sources.files);
+    let rows = wanted(&real, &std::env::args().nth(2).unwrap_or_default());
+    if rows.is_empty() {
+        std::process::exit(2);
+    }
     let mut buffers = Buffers {
         work: vec![0; model::MAX_TREE],
         records: vec![0; RECORD_WIDTH * MAX_FUNCTIONS],
         output: vec![0; MAX_BASELINE],
         counts: vec![0; 16],
     };
-    let all = [Call::Blank, Call::Scan, Call::Check, Call::Update, Call::Report];
-    let whole = [Call::Scan, Call::Check, Call::Update, Call::Report];
-    type Make<'a> = Box<dyn Fn(usize) -> Load + 'a>;
-    let rows: Vec<(&[Call], Make)> = vec![
-        (&all, Box::new(|d| workloads::real(&real, 250_000, d))),
-        (&all, Box::new(|d| workloads::real(&real, 1_000_000, d))),
-        (&all, Box::new(|d| workloads::real(&real, 4_000_000, d))),
-        (&all, Box::new(|d| workloads::real(&real, 16_000_000, d))),
-        (&[Call::Scan], Box::new(|d| workloads::one_body(&real, d))),
-        (&whole, Box::new(|d| workloads::tiny(false, d))),
-        (&whole, Box::new(|d| workloads::tiny(true, d))),
-        (&[Call::Check], Box::new(workloads::alive)),
-        (&[Call::Check], Box::new(workloads::stale)),
-        (&[Call::Scan], Box::new(|d| workloads::unclosed("fn a(", d))),
-        (&[Call::Scan], Box::new(|d| workloads::unclosed("fn a(){", d))),
-    ];
     std::println!("load average at the start: {}", measure::load_average());
     std::println!();
     std::println!("| Input | Call | Port, ms | Original, ms | Port / original | Lowest to highest | Runs |");
     std::println!("|---|---|---|---|---|---|---|");
-    for (calls, make) in &rows {
-        for &call in calls.iter().filter(|c| c.there()) {
-            row(call, make, &mut buffers);
-        }
+    for (input, call) in &rows {
+        row(*call, input, &mut buffers);
     }
     std::println!();
     std::println!("load average at the end: {}", measure::load_average());

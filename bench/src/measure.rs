@@ -56,11 +56,15 @@ fn median(values: &[f64]) -> f64 {
 }
 
 impl Row {
-    /// At least 3 runs, then up to 15 as long as they take less than 4 s. A side that would take too long has none.
+    /// A run, up to 3 as long as they take less than 60 s, and up to 15 as long as they take less than 4 s. A side that would take too long
+    /// has none.
     pub fn wanted(&self) -> bool {
         let spent: f64 = self.port.iter().chain(&self.original).sum();
-        let runs = self.port.len().max(self.original.len());
-        runs < 3 || (runs < 15 && spent < 4.0)
+        match self.port.len().max(self.original.len()) {
+            0 => true,
+            1 | 2 => spent < LONGEST,
+            runs => runs < 15 && spent < 4.0,
+        }
     }
 
     pub fn cells(&self, port: &Option<String>, original: &Option<String>) -> String {

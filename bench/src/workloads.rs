@@ -7,10 +7,50 @@ use crate::model::MAX_FUNCTIONS;
 use crate::{oracle, original};
 
 pub struct Load {
+    /// the input's name and what its making adds to it
     pub name: String,
     pub files: Vec<(String, String)>,
     pub tree: Vec<u8>,
     pub baseline: Vec<u8>,
+}
+
+/// What a row is measured on.
+pub enum Input<'a> {
+    /// real Rust of this many bytes
+    Real(&'a Real, usize),
+    OneBody(&'a Real),
+    Tiny {
+        over: bool,
+    },
+    Alive,
+    Stale,
+    Unclosed(&'a str),
+}
+
+impl Input<'_> {
+    pub fn name(&self) -> String {
+        match self {
+            Input::Real(_, size) => format!("real Rust, {} MB", *size as f64 / 1e6),
+            Input::OneBody(_) => "real Rust in one body, 1 MB".to_string(),
+            Input::Tiny { over } => format!("8,192 tiny functions, {} over", if *over { "all" } else { "none" }),
+            Input::Alive => "8,192 baseline lines, all alive".to_string(),
+            Input::Stale => "200,000 baseline lines, all stale".to_string(),
+            Input::Unclosed(piece) => format!("`{piece}` to 128 KB"),
+        }
+    }
+
+    pub fn made(&self, divisor: usize) -> Load {
+        let mut load = match self {
+            Input::Real(files, size) => real(files, *size, divisor),
+            Input::OneBody(files) => one_body(files, divisor),
+            Input::Tiny { over } => tiny(*over, divisor),
+            Input::Alive => alive(divisor),
+            Input::Stale => stale(divisor),
+            Input::Unclosed(piece) => unclosed(piece, divisor),
+        };
+        load.name.insert_str(0, &self.name());
+        load
+    }
 }
 
 impl Load {
@@ -42,7 +82,7 @@ impl Real {
 }
 
 /// Real files, again and again under other paths. Where the functions would become too many, a file stands in one body.
-pub fn real(real: &Real, size: usize, divisor: usize) -> Load {
+fn real(real: &Real, size: usize, divisor: usize) -> Load {
     let wanted = size / divisor;
     let mut files = Vec::new();
     let mut made = 0;
@@ -65,26 +105,24 @@ pub fn real(real: &Real, size: usize, divisor: usize) -> Load {
     }
     let funs: Vec<oracle::Fun> = files.iter().flat_map(|(p, t)| oracle::scan(p, t)).collect();
     let baseline = original::update_text(&funs).0;
-    let name = format!("real Rust, {} MB, {} functions", size as f64 / 1e6, funs.len());
-    Load::new(&name, files, baseline)
+    Load::new(&format!(", {} functions", funs.len()), files, baseline)
 }
 
 /// Real Rust in the body of one function.
-pub fn one_body(real: &Real, divisor: usize) -> Load {
+fn one_body(real: &Real, divisor: usize) -> Load {
     let all: String = real.files.iter().map(|file| file.0.as_str()).collect();
     let text = format!("fn all() {{\n{}\n}}\n", all.repeat(1_000_000 / divisor / all.len() + 1));
-    Load::new("real Rust in one body, 1 MB", vec![("src/a.rs".to_string(), text)], Vec::new())
+    Load::new("", vec![("src/a.rs".to_string(), text)], Vec::new())
 }
 
 /// As many functions as there may be, in one file.
-pub fn tiny(over: bool, divisor: usize) -> Load {
+fn tiny(over: bool, divisor: usize) -> Load {
     let mut text = String::new();
     for k in 0..MAX_FUNCTIONS / divisor {
         let body = if over { "{{{{{{}}}}}}" } else { "{}" };
         let _ = writeln!(text, "fn f{k}(){body}");
     }
-    let name = format!("8,192 tiny functions, {} over", if over { "all" } else { "none" });
-    Load::new(&name, vec![("src/a.rs".to_string(), text)], Vec::new())
+    Load::new("", vec![("src/a.rs".to_string(), text)], Vec::new())
 }
 
 fn lines(count: usize) -> Vec<u8> {
@@ -95,18 +133,18 @@ fn lines(count: usize) -> Vec<u8> {
     text.into_bytes()
 }
 
-pub fn alive(divisor: usize) -> Load {
+fn alive(divisor: usize) -> Load {
     let load = tiny(true, divisor);
-    Load { name: "8,192 baseline lines, all alive".to_string(), baseline: lines(MAX_FUNCTIONS / divisor), ..load }
+    Load { baseline: lines(MAX_FUNCTIONS / divisor), ..load }
 }
 
-pub fn stale(divisor: usize) -> Load {
+fn stale(divisor: usize) -> Load {
     let files = vec![("src/b.rs".to_string(), "fn a() {}\n".to_string())];
-    Load::new("200,000 baseline lines, all stale", files, lines(200_000 / divisor))
+    Load::new("", files, lines(200_000 / divisor))
 }
 
 /// One signature or body after another that never closes.
-pub fn unclosed(piece: &str, divisor: usize) -> Load {
+fn unclosed(piece: &str, divisor: usize) -> Load {
     let text = piece.repeat(128 * 1024 / piece.len() / divisor);
-    Load::new(&format!("`{piece}` to 128 KB"), vec![("src/a.rs".to_string(), text)], Vec::new())
+    Load::new("", vec![("src/a.rs".to_string(), text)], Vec::new())
 }

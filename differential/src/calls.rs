@@ -26,15 +26,8 @@ impl Name {
         }
     }
 
-    pub fn there(self) -> bool {
-        match self {
-            Name::Check => cfg!(has_check),
-            Name::Report => cfg!(has_report),
-            _ => true,
-        }
-    }
-
-    fn counts(self) -> usize {
+    /// The bytes that its counts need.
+    pub fn counts(self) -> usize {
         match self {
             Name::Blank => 0,
             Name::Scan => 4,
@@ -54,6 +47,11 @@ pub struct Slack {
     pub counts: i64,
 }
 
+/// The size of a buffer with so much more or less than it needs.
+pub fn with_slack(needed: usize, slack: i64) -> usize {
+    (needed as i64 + slack).max(0) as usize
+}
+
 /// Bytes on both sides of a lent buffer that no call may touch.
 const GUARD: usize = 24;
 
@@ -69,7 +67,7 @@ struct Buffer {
 impl Buffer {
     /// A pattern in which each byte differs from its neighbours.
     fn new(needed: usize, slack: i64, salt: u8) -> Buffer {
-        let size = (needed as i64 + slack).max(0) as usize;
+        let size = with_slack(needed, slack);
         let from = GUARD + size % 8;
         let bytes = (0..from + size + GUARD).map(|k| (k as u8).wrapping_mul(37) ^ salt).collect();
         Buffer { bytes, from, to: from + size }
@@ -133,14 +131,12 @@ fn same_number(library: u32, expected: usize) -> Result<(), String> {
     }
 }
 
-/// Blanking of any bytes. The original takes a string, of which it reads the bytes only.
-pub fn compare_blank(text: &[u8], slack: i64) -> Result<usize, String> {
-    let input = Input::new(text);
-    let mut output = Buffer::new(text.len(), slack, 0x5a);
-    let mut expected = output.part().to_vec();
+/// What blanking answers: its number and the output after it. The original takes a string, of which it reads the bytes only.
+pub fn blank_answer(text: &[u8], output: &[u8]) -> (usize, Vec<u8>) {
+    let mut after = output.to_vec();
     let number = if text.len() > MAX_TREE {
         1
-    } else if expected.len() < text.len() {
+    } else if output.len() < text.len() {
         5
     } else {
         0
@@ -148,35 +144,55 @@ pub fn compare_blank(text: &[u8], slack: i64) -> Result<usize, String> {
     if number == 0 {
         // SAFETY: `blanked` takes the string's bytes and asks for nothing else of it
         let text = unsafe { std::str::from_utf8_unchecked(text) };
-        expected[..text.len()].copy_from_slice(&blanked(text));
+        after[..text.len()].copy_from_slice(&blanked(text));
     }
+    (number, after)
+}
+
+/// Blanking of any bytes.
+pub fn compare_blank(text: &[u8], slack: i64) -> Result<usize, String> {
+    let input = Input::new(text);
+    let mut output = Buffer::new(text.len(), slack, 0x5a);
+    let (number, expected) = blank_answer(text, output.part());
     same_number(library::blank(input.part(), output.part_mut()), number)?;
     output.differs("output", &expected, 0x5a)?;
     input.kept("text", text)?;
     Ok(number)
 }
 
-/// What the original says of a tree, for one call: its listing and its counts.
-fn said(name: Name, tree: &Tree, baseline: &[u8]) -> (Vec<u8>, Vec<usize>) {
-    let functions = tree.funs.len();
-    match name {
-        Name::Blank | Name::Scan => (Vec::new(), vec![functions]),
-        Name::Check => {
-            let (listing, regressed, stale) = check_text(&tree.funs, baseline);
-            let counts = vec![listing.len(), functions, regressed, stale];
-            (listing, counts)
-        }
-        Name::Update => {
-            let (listing, recorded) = update_text(&tree.funs);
-            let counts = vec![listing.len(), functions, recorded];
-            (listing, counts)
-        }
-        Name::Report => {
-            let listing = report_text(&tree.funs);
-            let counts = vec![listing.len(), functions];
-            (listing, counts)
+/// What the original says of a tree, for one call.
+pub struct Said {
+    pub listing: Vec<u8>,
+    pub counts: Vec<usize>,
+}
+
+impl Said {
+    pub fn of(name: Name, tree: &Tree, baseline: &[u8]) -> Said {
+        let functions = tree.funs.len();
+        match name {
+            Name::Blank | Name::Scan => Said { listing: Vec::new(), counts: vec![functions] },
+            Name::Check => {
+                let (listing, regressed, stale) = check_text(&tree.funs, baseline);
+                Said { counts: vec![listing.len(), functions, regressed, stale], listing }
+            }
+            Name::Update => {
+                let (listing, recorded) = update_text(&tree.funs);
+                Said { counts: vec![listing.len(), functions, recorded], listing }
+            }
+            Name::Report => {
+                let listing = report_text(&tree.funs);
+                Said { counts: vec![listing.len(), functions], listing }
+            }
         }
     }
+}
+
+/// What a call on a tree answers: its number and the buffers after it.
+pub fn answer(name: Name, tree: &Tree, baseline: &[u8], said: &Said, lent: &Lent) -> (usize, Lent) {
+    let baseline = if name == Name::Check { baseline.len() } else { 0 };
+    let need = Need { counts: name.counts(), short_of_sums: false, baseline, listing: said.listing.len() };
+    let number = tree.number(lent, &need);
+    (number, model::after(tree, lent, number, &said.listing, &said.counts))
 }
 
 /// A call on a tree: its number and, on success, its counts.
@@ -184,12 +200,12 @@ pub fn compare(name: Name, tree: &Tree, baseline: &[u8], slack: Slack) -> Result
     if name == Name::Blank {
         return Ok((compare_blank(&tree.bytes, slack.output)?, Vec::new()));
     }
-    let (listing, numbers) = said(name, tree, baseline);
+    let said = Said::of(name, tree, baseline);
     let input = Input::new(&tree.bytes);
     let base = Input::new(baseline);
     let mut work = Buffer::new(tree.bytes.len(), slack.work, 0x11);
     let mut records = Buffer::new(RECORD_WIDTH * tree.funs.len(), slack.records, 0x22);
-    let mut output = Buffer::new(listing.len(), slack.output, 0x33);
+    let mut output = Buffer::new(said.listing.len(), slack.output, 0x33);
     let mut counts = Buffer::new(name.counts(), slack.counts, 0x44);
     let lent = Lent {
         work: work.part().to_vec(),
@@ -197,10 +213,7 @@ pub fn compare(name: Name, tree: &Tree, baseline: &[u8], slack: Slack) -> Result
         output: output.part().to_vec(),
         counts: counts.part().to_vec(),
     };
-    let baseline_length = if name == Name::Check { baseline.len() } else { 0 };
-    let need = Need { counts: name.counts(), short_of_sums: false, baseline: baseline_length, listing: listing.len() };
-    let number = tree.number(&lent, &need);
-    let expected = model::after(tree, &lent, number, &listing, &numbers);
+    let (number, expected) = answer(name, tree, baseline, &said, &lent);
 
     let mut slices =
         Slices { work: work.part_mut(), records: records.part_mut(), output: output.part_mut(), counts: counts.part_mut() };
@@ -218,5 +231,5 @@ pub fn compare(name: Name, tree: &Tree, baseline: &[u8], slack: Slack) -> Result
     work.differs("work", &expected.work, 0x11)?;
     input.kept("tree", &tree.bytes)?;
     base.kept("baseline", baseline)?;
-    Ok((number, if number == 0 { numbers } else { Vec::new() }))
+    Ok((number, if number == 0 { said.counts } else { Vec::new() }))
 }

@@ -88,7 +88,10 @@ pub fn subject(kind: Kind, seed: u64, case: usize, sources: &Sources) -> (Subjec
         }
         Kind::Report => Subject::Tree(laid_out(&report_files(r)), Vec::new()),
         Kind::Broken => Subject::Tree(broken(r, sources), Vec::new()),
-        Kind::Limits => limits(r, case / 2_000),
+        Kind::Limits => {
+            let one_more = r.below(2);
+            limits(r, case / 2_000, one_more)
+        }
         Kind::Huge => huge(r, case % 250_000 / 1_000),
     };
     (subject, random)
@@ -379,8 +382,8 @@ fn numbered(count: usize, text: impl Fn(usize) -> String) -> Vec<Plain> {
     ordered((0..count).map(|k| (format!("f{k:05}").into_bytes(), text(k).into_bytes())).collect())
 }
 
-fn limits(r: &mut Random, turn: usize) -> Subject {
-    let one_more = r.below(2);
+/// A tree at a limit; `one_more`, which is 0 or 1, takes some of them past it.
+pub fn limits(r: &mut Random, turn: usize, one_more: usize) -> Subject {
     let files = match turn % 8 {
         0 => numbered(MAX_FILES + one_more, |_| "fn a(){}".to_string()),
         1 => {
@@ -436,7 +439,7 @@ fn limits(r: &mut Random, turn: usize) -> Subject {
 }
 
 /// The longest text, tree and baseline, and one byte more.
-fn huge(r: &mut Random, turn: usize) -> Subject {
+pub fn huge(r: &mut Random, turn: usize) -> Subject {
     let one_more = usize::from(turn % 2 == 1);
     let filled = |size: usize, piece: &str| -> Vec<u8> { piece.bytes().cycle().take(size).collect() };
     match turn / 2 % 3 {

@@ -198,7 +198,7 @@ pub fn replay(file: &Path) -> i32 {
     };
     let field = |name: &str| text.lines().find_map(|l| l.strip_prefix(name)?.strip_prefix(' ')).unwrap_or("").to_string();
     let called = field("call");
-    let Some(name) = NAMES.into_iter().find(|n| n.text() == called && n.there()) else {
+    let Some(name) = NAMES.into_iter().find(|n| n.text() == called) else {
         eprintln!("differential: {}: no call '{called}'", file.display());
         return 2;
     };

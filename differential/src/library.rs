@@ -1,58 +1,9 @@
-//! The calls of the proved library, as include/complexity.h declares them.
+//! The calls of the proved library on slices.
 
-extern "C" {
-    fn complexity_blank(text: *const u8, text_length: usize, output: *mut u8, output_length: usize) -> u32;
-    fn complexity_scan(
-        tree: *const u8,
-        tree_length: usize,
-        work: *mut u8,
-        work_length: usize,
-        records: *mut u8,
-        records_length: usize,
-        counts: *mut u8,
-        counts_length: usize,
-    ) -> u32;
-    #[cfg(has_check)]
-    fn complexity_check(
-        tree: *const u8,
-        tree_length: usize,
-        baseline: *const u8,
-        baseline_length: usize,
-        work: *mut u8,
-        work_length: usize,
-        records: *mut u8,
-        records_length: usize,
-        output: *mut u8,
-        output_length: usize,
-        counts: *mut u8,
-        counts_length: usize,
-    ) -> u32;
-    fn complexity_update(
-        tree: *const u8,
-        tree_length: usize,
-        work: *mut u8,
-        work_length: usize,
-        records: *mut u8,
-        records_length: usize,
-        output: *mut u8,
-        output_length: usize,
-        counts: *mut u8,
-        counts_length: usize,
-    ) -> u32;
-    #[cfg(has_report)]
-    fn complexity_report(
-        tree: *const u8,
-        tree_length: usize,
-        work: *mut u8,
-        work_length: usize,
-        records: *mut u8,
-        records_length: usize,
-        output: *mut u8,
-        output_length: usize,
-        counts: *mut u8,
-        counts_length: usize,
-    ) -> u32;
-}
+#[path = "../../include/complexity.rs"]
+mod complexity;
+
+use complexity::{complexity_blank, complexity_check, complexity_report, complexity_scan, complexity_update};
 
 /// The parts of the lent buffers that a call sees.
 pub struct Slices<'a> {
@@ -98,7 +49,6 @@ pub fn update(tree: &[u8], s: &mut Slices) -> u32 {
     }
 }
 
-#[cfg(has_report)]
 pub fn report(tree: &[u8], s: &mut Slices) -> u32 {
     unsafe {
         complexity_report(
@@ -116,7 +66,6 @@ pub fn report(tree: &[u8], s: &mut Slices) -> u32 {
     }
 }
 
-#[cfg(has_check)]
 pub fn check(tree: &[u8], baseline: &[u8], s: &mut Slices) -> u32 {
     unsafe {
         complexity_check(
@@ -134,15 +83,4 @@ pub fn check(tree: &[u8], baseline: &[u8], s: &mut Slices) -> u32 {
             s.counts.len(),
         )
     }
-}
-
-// A call that the library does not have yet is not compared.
-#[cfg(not(has_report))]
-pub fn report(_tree: &[u8], _s: &mut Slices) -> u32 {
-    unreachable!("the library has no complexity_report")
-}
-
-#[cfg(not(has_check))]
-pub fn check(_tree: &[u8], _baseline: &[u8], _s: &mut Slices) -> u32 {
-    unreachable!("the library has no complexity_check")
 }

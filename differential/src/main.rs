@@ -1,5 +1,6 @@
 //! The proved library against the Rust original, in one process: `differential ROOT [SEED] [COUNT] [SECONDS or FILE]`. README.md says what is
-//! compared. Exit status: 0 no difference, 1 some, 2 nothing could be compared.
+//! compared. Exit status: 0 no difference, 1 some, 2 nothing could be compared. `differential ROOT --list FILE [SEED] [COUNT]` writes a list of
+//! the original's answers instead.
 
 use std::collections::BTreeMap;
 use std::path::{Path, PathBuf};
@@ -10,10 +11,12 @@ mod memory;
 include!(concat!(env!("OUT_DIR"), "/module.rs"));
 mod calls;
 mod cases;
+mod describe;
 mod failures;
 #[allow(dead_code)]
 mod inputs;
 mod library;
+mod list;
 #[allow(dead_code)]
 mod model;
 mod original;
@@ -31,7 +34,7 @@ const ENOUGH: usize = 10;
 #[derive(Default)]
 struct Tally {
     cases: BTreeMap<Kind, usize>,
-    calls: BTreeMap<(Name, usize), usize>,
+    calls: list::Numbers,
     functions: usize,
     regressed: usize,
     stale: usize,
@@ -81,7 +84,7 @@ fn run(kind: Kind, subject: &Subject, r: &mut Random, tally: &mut Tally, failure
             Name::Scan => true,
             _ => !text_only || (kind != Kind::Short && r.chance(15)),
         };
-        if !asked || !name.there() {
+        if !asked {
             continue;
         }
         let room = slack(r, tree.bytes.len());
@@ -95,19 +98,21 @@ fn run(kind: Kind, subject: &Subject, r: &mut Random, tally: &mut Tally, failure
     }
 }
 
+fn show_numbers(calls: &list::Numbers) {
+    for name in NAMES {
+        let answered: Vec<String> = calls.iter().filter(|c| c.0 .0 == name).map(|c| format!("{} x {}", c.0 .1, c.1)).collect();
+        let all: usize = calls.iter().filter(|c| c.0 .0 == name).map(|c| c.1).sum();
+        std::println!("  {:6} {all} calls; numbers: {}", name.text(), answered.join(", "));
+    }
+}
+
 fn show(tally: &Tally, started: Instant, differences: usize) {
     let all: usize = tally.cases.values().sum();
     std::println!("{all} cases in {} s", started.elapsed().as_secs());
     for kind in KINDS {
         std::println!("  {:32} {}", kind.text(), tally.cases.get(&kind).unwrap_or(&0));
     }
-    for name in NAMES {
-        let answered: Vec<String> =
-            tally.calls.iter().filter(|c| c.0 .0 == name).map(|c| format!("{} x {}", c.0 .1, c.1)).collect();
-        let calls: usize = tally.calls.iter().filter(|c| c.0 .0 == name).map(|c| c.1).sum();
-        let there = if name.there() { "" } else { " (not in the library)" };
-        std::println!("  {:6} {calls} calls{there}; numbers: {}", name.text(), answered.join(", "));
-    }
+    show_numbers(&tally.calls);
     std::println!(
         "  functions {}, inputs with a function {}, texts whose parameter count falls below 0: {}",
         tally.functions,
@@ -123,9 +128,32 @@ fn show(tally: &Tally, started: Instant, differences: usize) {
     std::println!("differences: {differences}");
 }
 
+/// Writes the list of the original's answers; the exit status.
+fn write_list(root: &Path, args: &[String]) -> i32 {
+    let number = |k: usize, otherwise: u64| args.get(k).map_or(otherwise, |a| a.parse().expect("a number"));
+    let (Some(file), Some(sources)) = (args.first(), sources::read(root)) else {
+        eprintln!("differential: --list FILE [SEED] [COUNT], and the file {}", env!("ORIGINAL"));
+        return 2;
+    };
+    match list::write(Path::new(file), number(1, 1), number(2, 600) as usize, &sources) {
+        Ok(numbers) => {
+            std::println!("{file}: {} calls", numbers.values().sum::<usize>());
+            show_numbers(&numbers);
+            0
+        }
+        Err(error) => {
+            eprintln!("differential: {file}: {error}");
+            2
+        }
+    }
+}
+
 fn main() {
     let args: Vec<String> = std::env::args().skip(1).collect();
     let root = PathBuf::from(args.first().expect("the project's root"));
+    if args.get(1).is_some_and(|a| a == "--list") {
+        std::process::exit(write_list(&root, &args[2..]));
+    }
     let number = |k: usize, otherwise: u64| args.get(k).map_or(otherwise, |a| a.parse().expect("a number"));
     let seed = number(1, 1);
     let count = number(2, 100_000) as usize;

@@ -1,7 +1,11 @@
 //! The proved calls, through their C interface (include/complexity.h), with the buffers that they are lent.
 
+#[path = "../../include/complexity.rs"]
+mod complexity;
+
 use crate::Refusal;
 use crate::tree::Tree;
+use complexity::{complexity_check, complexity_report, complexity_update};
 use std::path::Path;
 
 const MAX_FUNCTIONS: usize = 8192;
@@ -13,47 +17,6 @@ const WORDS: usize = 256;
 const HEADER: usize = 4096;
 /// Check writes up to two lines for a function.
 const LINES: usize = 2;
-
-unsafe extern "C" {
-    fn complexity_check(
-        tree: *const u8,
-        tree_length: usize,
-        baseline: *const u8,
-        baseline_length: usize,
-        work: *mut u8,
-        work_length: usize,
-        records: *mut u8,
-        records_length: usize,
-        output: *mut u8,
-        output_length: usize,
-        counts: *mut u8,
-        counts_length: usize,
-    ) -> u32;
-    fn complexity_update(
-        tree: *const u8,
-        tree_length: usize,
-        work: *mut u8,
-        work_length: usize,
-        records: *mut u8,
-        records_length: usize,
-        output: *mut u8,
-        output_length: usize,
-        counts: *mut u8,
-        counts_length: usize,
-    ) -> u32;
-    fn complexity_report(
-        tree: *const u8,
-        tree_length: usize,
-        work: *mut u8,
-        work_length: usize,
-        records: *mut u8,
-        records_length: usize,
-        output: *mut u8,
-        output_length: usize,
-        counts: *mut u8,
-        counts_length: usize,
-    ) -> u32;
-}
 
 /// Update's call and report's.
 type TreeCall = unsafe extern "C" fn(*const u8, usize, *mut u8, usize, *mut u8, usize, *mut u8, usize, *mut u8, usize) -> u32;
