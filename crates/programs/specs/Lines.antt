@@ -1,0 +1,24 @@
+-- A line that is put at the start of an output, and then printed.
+use Prim.Native.Nat.{ℕ, _+_, _≤_}
+use mathlib.Core.Path.{_≡_, ap, sym, _∙_}
+use mathlib.Core.List.{List}
+use native.Mathlib.Omega.{arith}
+use lib.ListN.{length, take, drop}
+use lib.Seq.{take-at, length-take-le}
+use Rattle.io.specs.Counts.{Counts}
+use Rattle.text_rules.specs.Bytes.{joined}
+use Rattle.text_rules.specs.PutLaws.{put-length}
+use Rattle.text_rules.specs.WriterLaws.{Puts}
+
+-- the first n bytes of an output are a text
+abbrev pub Starts : (n : ℕ) (output text : List ℕ) → Type 0
+Starts n output text = Counts n output × (take n output ≡ text)
+
+-- parts put one behind the other from the start on are its first bytes
+pub line-put : {n : ℕ} {s t : List ℕ} {parts : List (List ℕ)} → Puts 0 s parts n t → length (joined parts) ≤ length s → Starts n t (joined parts)
+line-put {n} {s} {t} {parts} p h =
+    let room : 0 + length (joined parts) ≤ length s = omega arith in
+    let all = p .whole room in
+    let size : length (joined parts) ≡ n = omega (arith, all .0) in
+    let kept : length t ≡ length s = ap length (all .1) ∙ put-length 0 (joined parts) s room in
+    ((omega (arith, size, kept), sym (length-take-le n t (omega (arith, size, kept)))), ap (take n) (all .1) ∙ take-at (joined parts) (drop (0 + length (joined parts)) s) n size)
