@@ -5,7 +5,7 @@ use mathlib.Core.Bool.{Bool, true, false}
 use mathlib.Core.List.{List, [], _∷_, _++_}
 use native.Mathlib.Omega.{arith}
 use lib.Dec.{ltb}
-use lib.ListN.{length, take, drop, length-append, length-replicate}
+use lib.ListN.{length, take, drop, length-append}
 use lib.Seq.{length-take-le}
 use Rattle.text_rules.specs.Bytes.{_orElse_, _when_}
 use Rattle.text_rules.specs.Decimal.{decimal}
@@ -30,10 +30,6 @@ longBaseline tree = treeRefusal tree orElse 7
 -- the number where a file is too long, or else 0
 unfoldable pub lengthRefusal : (tree baseline : List ℕ) → ℕ
 lengthRefusal tree baseline = 1 when ltb programBytes (length tree) orElse longBaseline tree when ltb programBytes (length baseline)
-
--- a refusal's line fits
-pub line-fits : (s : List ℕ) → s ≡ lent → 11 ≤ length s
-line-fits s e = omega (arith, ap length e, length-replicate {A = ℕ} programBytes 0)
 
 -- ---- the number that a program tells, in general: a for a longer tree, b for a longer baseline, t for the tree's own refusal
 

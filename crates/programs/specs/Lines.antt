@@ -3,12 +3,13 @@ use Prim.Native.Nat.{ℕ, _+_, _≤_}
 use mathlib.Core.Path.{_≡_, ap, sym, _∙_}
 use mathlib.Core.List.{List}
 use native.Mathlib.Omega.{arith}
-use lib.ListN.{length, take, drop}
+use lib.ListN.{length, take, drop, length-replicate}
 use lib.Seq.{take-at, length-take-le}
 use Rattle.io.specs.Counts.{Counts}
 use Rattle.text_rules.specs.Bytes.{joined}
 use Rattle.text_rules.specs.PutLaws.{put-length}
 use Rattle.text_rules.specs.WriterLaws.{Puts}
+use Rattle.gate_rules.specs.Programs.{lent, programBytes}
 
 -- the first n bytes of an output are a text
 abbrev pub Starts : (n : ℕ) (output text : List ℕ) → Type 0
@@ -22,3 +23,7 @@ line-put {n} {s} {t} {parts} p h =
     let size : length (joined parts) ≡ n = omega (arith, all .0) in
     let kept : length t ≡ length s = ap length (all .1) ∙ put-length 0 (joined parts) s room in
     ((omega (arith, size, kept), sym (length-take-le n t (omega (arith, size, kept)))), ap (take n) (all .1) ∙ take-at (joined parts) (drop (0 + length (joined parts)) s) n size)
+
+-- a refusal's line fits into a program's buffer
+pub line-fits : (s : List ℕ) → s ≡ lent → 11 ≤ length s
+line-fits s e = omega (arith, ap length e, length-replicate {A = ℕ} programBytes 0)

@@ -3,7 +3,8 @@ use mathlib.Core.Path.{sym, _∙_}
 use native.Mathlib.Omega.{arith}
 use denote.Ref.{now}
 use borrow.Author.Needs.{needs}
-use Rattle.complexity_check.specs.Printed.{line-fits, listing-printed, long-printed, refused-printed}
+use Rattle.programs.specs.Lines.{line-fits}
+use Rattle.complexity_check.specs.Printed.{listing-printed, long-printed, refused-printed}
 use Rattle.complexity_check.proofs.put_answer.Statement.{statement}
 use Rattle.complexity_check.proofs.put_answer.Tie as tie
 
