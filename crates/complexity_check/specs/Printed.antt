@@ -1,6 +1,6 @@
 -- What is printed, case by case: a file is too long, or the call check refuses, or it lists.
 use Prim.Native.Nat.{ℕ, zero, suc, _≤_}
-use mathlib.Core.Path.{_≡_, refl, ap, ap₂, sym, subst, _∙_}
+use mathlib.Core.Path.{_≡_, refl, ap, ap₂, sym, _∙_}
 use mathlib.Core.Bool.{Bool, true, false}
 use mathlib.Core.List.{List, [], _∷_, _++_}
 use native.Mathlib.Omega.{arith}
@@ -21,7 +21,7 @@ use Rattle.gate_rules.specs.TableLaws.{checked-number}
 use Rattle.gate_rules.specs.Tree.{treeRefusal}
 use Rattle.gate_check.specs.declared.CheckAnswer.{CheckAnswer}
 use Rattle.gate_check.specs.Checks.{Checks}
-use Rattle.programs.specs.Lines.{Starts}
+use Rattle.programs.specs.Lines.{Starts, refused-line}
 
 -- the number where the baseline is too long
 abbrev pub longBaseline : List ℕ → ℕ
@@ -62,10 +62,6 @@ long-line a b t call text (suc n) e h = ap (λ m. printed m text) (long-number a
 call-line : (a b : Bool) (t call rest : ℕ) (text : List ℕ) → call ≡ (t orElse rest) → 0 ≡ tooLong a b t → printed call text ≡ printed (told a b t call) text
 call-line a b t call rest text first e = ap (λ m. printed m text) (first ∙ call-number a b t rest e ∙ ap (told a b t) (sym first))
 
-refused-line : (call : ℕ) (text : List ℕ) → 1 ≤ call → decimal call ++ 10 ∷ [] ≡ printed call text
-refused-line zero text h = absurd (omega arith)
-refused-line (suc n) text h = refl
-
 -- ---- the program
 
 -- the listing lies in the output
@@ -78,8 +74,15 @@ module _ (tree baseline : List ℕ) where
   unfolding lengthRefusal checkProgram
   long-printed n e h = long-line (ltb programBytes (length tree)) (ltb programBytes (length baseline)) (treeRefusal tree) _ _ n e h
 
+  -- what the program tells of a call
+  programBy : Checked → List ℕ
+  programBy c = printed (told (ltb programBytes (length tree)) (ltb programBytes (length baseline)) (treeRefusal tree) (c .answer .number)) (take (c .answer .written) (c .output))
+
   module _ (work records output : List ℕ) where
-    -- the rest of the call's number
+    call : Checked
+    call = checkCall gate gateLimits tree baseline work records output
+
+    -- the call's number behind the tree's own refusals
     rest : ℕ
     rest =
         5 when ltb (length work) (length tree)
@@ -87,50 +90,41 @@ module _ (tree baseline : List ℕ) where
         orElse 8 when ltb (room records) (length (functionsOf gate tree))
         orElse 9 when ltb (length output) (length (listing gateLimits (entries baseline) (functionsOf gate tree)))
 
-    call-first : checkCall gate gateLimits tree baseline work records output .answer .number ≡ (treeRefusal tree orElse rest)
-    unfolding checkCall checkNumber gate rest
+    call-first : call .answer .number ≡ (treeRefusal tree orElse rest)
+    unfolding call checkCall checkNumber gate rest
     call-first = checked-number gateLimits (checkNumber gate gateLimits tree baseline work records output) (entries baseline) (functionsOf gate tree)
 
-    call-inside : checkCall gate gateLimits tree baseline work records output .answer .written ≤ length (checkCall gate gateLimits tree baseline work records output .output)
-    unfolding checkCall
+    call-inside : call .answer .written ≤ length (call .output)
+    unfolding call checkCall
     call-inside = inside gateLimits (checkNumber gate gateLimits tree baseline work records output) (entries baseline) (functionsOf gate tree) output
 
     module _ (work-zeros : work ≡ lent) (records-zeros : records ≡ lent) (output-zeros : output ≡ lent) (short : 0 ≡ lengthRefusal tree baseline) where
-      -- what the program tells, with any buffers
-      programBy : (work records output : List ℕ) → List ℕ
-      programBy w l o =
-          let c : Checked = checkCall gate gateLimits tree baseline w l o in
-          printed (told (ltb programBytes (length tree)) (ltb programBytes (length baseline)) (treeRefusal tree) (c .answer .number)) (take (c .answer .written) (c .output))
+      call-same : call ≡ checkCall gate gateLimits tree baseline lent lent lent
+      unfolding call
+      call-same = λ i. checkCall gate gateLimits tree baseline (work-zeros i) (records-zeros i) (output-zeros i)
 
-      call-printed : (c : Checked) → c ≡ checkCall gate gateLimits tree baseline work records output
-          → printed (c .answer .number) (take (c .answer .written) (c .output)) ≡ checkProgram tree baseline
+      call-printed : printed (call .answer .number) (take (call .answer .written) (call .output)) ≡ checkProgram tree baseline
       unfolding lengthRefusal checkProgram programBy
-      call-printed c same =
-          let line : printed (c .answer .number) (take (c .answer .written) (c .output))
-          ≡ printed (told (ltb programBytes (length tree)) (ltb programBytes (length baseline)) (treeRefusal tree) (c .answer .number)) (take (c .answer .written) (c .output)) =
-          call-line (ltb programBytes (length tree)) (ltb programBytes (length baseline)) (treeRefusal tree) (c .answer .number) rest (take (c .answer .written) (c .output))
-          (ap (λ d. d .answer .number) same ∙ call-first) short in
-          let all : programBy work records output ≡ programBy lent lent lent = λ i. programBy (work-zeros i) (records-zeros i) (output-zeros i) in
-          line
-          ∙ ap (λ d. printed (told (ltb programBytes (length tree)) (ltb programBytes (length baseline)) (treeRefusal tree) (d .answer .number)) (take (d .answer .written) (d .output))) same
-          ∙ all
+      call-printed =
+          call-line (ltb programBytes (length tree)) (ltb programBytes (length baseline)) (treeRefusal tree) (call .answer .number) rest (take (call .answer .written) (call .output)) call-first short
+          ∙ ap programBy call-same
 
       module _ (r : CheckAnswer) (w l o : List ℕ) (checks : Checks r (checkCall gate gateLimits tree baseline work records output) w l o) where
         -- the call refuses
         pub refused-printed : 1 ≤ r .number → decimal (r .number) ++ 10 ∷ [] ≡ checkProgram tree baseline
+        unfolding call
         refused-printed h =
-            let c = checkCall gate gateLimits tree baseline work records output in
-            ap (λ n. decimal n ++ 10 ∷ []) (checks .number-is)
-            ∙ refused-line (c .answer .number) (take (c .answer .written) (c .output)) (subst (λ n. 1 ≤ n) (checks .number-is) h)
-            ∙ call-printed c refl
+            refused-line (r .number) (take (call .answer .written) (call .output)) h
+            ∙ ap (λ n. printed n (take (call .answer .written) (call .output))) (checks .number-is)
+            ∙ call-printed
 
         -- the call lists
         pub listing-printed : r .number ≡ 0 → Starts (r .written) o (checkProgram tree baseline)
+        unfolding call
         listing-printed e =
-            let c = checkCall gate gateLimits tree baseline work records output in
             let within : r .written ≤ length o = omega (arith, checks .written-is, ap length (checks .output-is), call-inside) in (
               (within, sym (length-take-le (r .written) o within)),
               ap₂ take (checks .written-is) (checks .output-is)
-                  ∙ ap (λ m. printed m (take (c .answer .written) (c .output))) (sym e ∙ checks .number-is)
-                  ∙ call-printed c refl,
+                  ∙ ap (λ m. printed m (take (call .answer .written) (call .output))) (sym e ∙ checks .number-is)
+                  ∙ call-printed,
             )

@@ -1,6 +1,6 @@
 -- What is printed, case by case: the tree is too long, or the call report refuses, or it lists.
 use Prim.Native.Nat.{ℕ, zero, suc, _≤_, _<_}
-use mathlib.Core.Path.{_≡_, refl, ap, ap₂, sym, subst, _∙_}
+use mathlib.Core.Path.{_≡_, ap, ap₂, sym, _∙_}
 use mathlib.Core.List.{List, [], _∷_, _++_}
 use native.Mathlib.Omega.{arith}
 use lib.ListN.{length, take, drop, length-append}
@@ -18,16 +18,12 @@ use Rattle.gate_rules.specs.ReportCall.{Reported, reportCall, reportNumber, rep
 use Rattle.gate_rules.specs.Scan.{functionsOf}
 use Rattle.answers.specs.declared.Answer.{Answer}
 use Rattle.gate_report.specs.Reports.{ReportsAlone}
-use Rattle.programs.specs.Lines.{Starts}
+use Rattle.programs.specs.Lines.{Starts, refused-line}
 
 -- the tree is too long
 pub long-printed : (tree : List ℕ) → 65536 < length tree → decimal 1 ++ 10 ∷ [] ≡ reportProgram tree
 unfolding decimal digits
 long-printed tree long = sym (report-longer tree long)
-
-refused-line : (n : ℕ) (text : List ℕ) → 1 ≤ n → decimal n ++ 10 ∷ [] ≡ printed n text
-refused-line zero text h = absurd (omega arith)
-refused-line (suc n) text h = refl
 
 -- the listing lies in the output
 inside : (n functions : ℕ) (text output : List ℕ) → answerAt n (length text) functions .written ≤ length (outputAfter n text output)

@@ -1,15 +1,14 @@
 -- What is printed and what is written, case by case: the tree is too long, or the call update refuses, or it writes.
 use Prim.Native.Nat.{ℕ, zero, suc, _≤_, _<_}
-use mathlib.Core.Path.{_≡_, refl, ap, ap₂, sym, subst, _∙_}
+use mathlib.Core.Path.{_≡_, refl, ap, ap₂, sym, _∙_}
 use mathlib.Core.List.{List, [], _∷_, _++_}
-use mathlib.Core.Option.{Option, none, some}
+use mathlib.Core.Option.{Option}
 use native.Mathlib.Omega.{arith}
-use lib.Dec.{ltb}
 use lib.ListN.{length, take}
 use lib.Seq.{length-take-le}
 use borrow.Author.Tests.{le-ltb}
 use Rattle.io.specs.Counts.{Counts}
-use Rattle.text_rules.specs.Bytes.{_orElse_, _when_, ascii, joined}
+use Rattle.text_rules.specs.Bytes.{ascii, joined}
 use Rattle.text_rules.specs.Decimal.{decimal, digits}
 use Rattle.gate_rules.specs.Calls.{Updated, updateCall}
 use Rattle.gate_rules.specs.Functions.{gateLimits}
@@ -18,6 +17,7 @@ use Rattle.gate_rules.specs.ProgramLaws.{update-longer, update-no-file}
 use Rattle.gate_rules.specs.Programs.{lent, printed, programBytes, updateFile, updateProgram, writtenAt}
 use Rattle.gate_update.specs.declared.UpdateAnswer.{UpdateAnswer}
 use Rattle.gate_update.specs.Updates.{Updates, written-inside}
+use Rattle.programs.specs.Lines.{refused-line}
 
 -- the closing line
 abbrev pub closing : ℕ → List ℕ
@@ -40,11 +40,7 @@ module _ (tree : List ℕ) (long : 65536 < length tree) where
   pub long-file : (n : ℕ) (text : List ℕ) → n ≡ 1 → writtenAt n text ≡ updateFile tree
   long-file n text e = ap (λ m. writtenAt m text) e ∙ sym (update-no-file tree long)
 
--- what is printed and what is written after a call, by its number
-refused-print : (n : ℕ) (text : List ℕ) → 1 ≤ n → refusalLine n ≡ printed n text
-refused-print zero text h = absurd (omega arith)
-refused-print (suc n) text h = refl
-
+-- a refusal writes nothing
 refused-write : (n : ℕ) (text text′ : List ℕ) → 1 ≤ n → writtenAt n text ≡ writtenAt n text′
 refused-write zero text text′ h = absurd (omega arith)
 refused-write (suc n) text text′ h = refl
@@ -71,9 +67,9 @@ module _ (tree work records output : List ℕ) (work-zeros : work ≡ lent) (rec
   module _ (r : UpdateAnswer) (w l o : List ℕ) (updates : Updates r (updateCall gate gateLimits tree work records output) w l o) where
     -- the call refuses
     module _ (refused : 1 ≤ r .number) where
-      pub refused-line : refusalLine (r .number) ≡ updateProgram tree
+      pub refused-printed : refusalLine (r .number) ≡ updateProgram tree
       unfolding lineBy
-      refused-line = refused-print (r .number) _ refused ∙ ap (λ n. printed n (closing (updateCall gate gateLimits tree work records output .answer .recorded))) (updates .number-is) ∙ line-is
+      refused-printed = refused-line (r .number) _ refused ∙ ap (λ n. printed n (closing (updateCall gate gateLimits tree work records output .answer .recorded))) (updates .number-is) ∙ line-is
 
       pub refused-file : (n : ℕ) (text : List ℕ) → n ≡ r .number → writtenAt n text ≡ updateFile tree
       unfolding fileBy

@@ -1,15 +1,16 @@
 -- A line that is put at the start of an output, and then printed.
-use Prim.Native.Nat.{ℕ, _+_, _≤_}
-use mathlib.Core.Path.{_≡_, ap, sym, _∙_}
-use mathlib.Core.List.{List}
+use Prim.Native.Nat.{ℕ, zero, suc, _+_, _≤_}
+use mathlib.Core.Path.{_≡_, refl, ap, sym, _∙_}
+use mathlib.Core.List.{List, [], _∷_, _++_}
 use native.Mathlib.Omega.{arith}
 use lib.ListN.{length, take, drop, length-replicate}
 use lib.Seq.{take-at, length-take-le}
 use Rattle.io.specs.Counts.{Counts}
 use Rattle.text_rules.specs.Bytes.{joined}
+use Rattle.text_rules.specs.Decimal.{decimal}
 use Rattle.text_rules.specs.PutLaws.{put-length}
 use Rattle.text_rules.specs.WriterLaws.{Puts}
-use Rattle.gate_rules.specs.Programs.{lent, programBytes}
+use Rattle.gate_rules.specs.Programs.{lent, printed, programBytes}
 
 -- the first n bytes of an output are a text
 abbrev pub Starts : (n : ℕ) (output text : List ℕ) → Type 0
@@ -27,3 +28,8 @@ line-put {n} {s} {t} {parts} p h =
 -- a refusal's line fits into a program's buffer
 pub line-fits : (s : List ℕ) → s ≡ lent → 11 ≤ length s
 line-fits s e = omega (arith, ap length e, length-replicate {A = ℕ} programBytes 0)
+
+-- a refusal's line is what a program prints for it
+pub refused-line : (n : ℕ) (text : List ℕ) → 1 ≤ n → decimal n ++ 10 ∷ [] ≡ printed n text
+refused-line zero text h = absurd (omega arith)
+refused-line (suc n) text h = refl

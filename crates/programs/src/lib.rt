@@ -51,7 +51,7 @@ fn read(fd: i32, buf: &mut [u8]) -> Reading
     }
 }
 
-// The tree, from standard input.
+// The tree, from standard input. Where this fails it says why.
 pub fn read_tree(buf: &mut [u8]) -> Reading
     ensures { λ r. ⌜ Counts (r .count) (now (buf .exit)) ⌝ }
 {
@@ -62,7 +62,7 @@ pub fn read_tree(buf: &mut [u8]) -> Reading
     r
 }
 
-// The baseline, from its open file.
+// The baseline, from its open file. Where this fails it says why.
 fn read_open(fd: i32, buf: &mut [u8]) -> Reading
     ensures { λ r. ⌜ Counts (r .count) (now (buf .exit)) ⌝ }
 {
@@ -74,7 +74,7 @@ fn read_open(fd: i32, buf: &mut [u8]) -> Reading
     r
 }
 
-// The baseline, from its file.
+// The baseline, from its file. A missing file is an empty baseline; where it cannot be read this says why.
 pub fn read_baseline(buf: &mut [u8]) -> Reading
     ensures { λ r. ⌜ Counts (r .count) (now (buf .exit)) ⌝ }
 {
@@ -94,14 +94,9 @@ fn say_unwritten() {
     os::fail(b"could not write tools/complexity-baseline.tsv");
 }
 
-// Writes a new file and waits until its bytes have reached the device. Where this fails it says why.
+// Writes a new file that others may read too, and waits until its bytes have reached the device. Where this fails it says why.
 fn fill(fd: i32, bytes: &[u8]) -> bool {
-    if !io::write_all(fd, bytes) {
-        say_unwritten();
-        libc::close(fd);
-        return false;
-    }
-    if libc::fchmod(fd, 0o644) != 0 || libc::fsync(fd) != 0 {
+    if !io::write_all(fd, bytes) || libc::fchmod(fd, 0o644) != 0 || libc::fsync(fd) != 0 {
         say_unwritten();
         libc::close(fd);
         return false;

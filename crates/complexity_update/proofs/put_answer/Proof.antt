@@ -1,9 +1,9 @@
 -- `complexity_update::put_answer` meets its contract: what it puts is what the definition prints and writes.
-use mathlib.Core.Path.{ap, _∙_}
+use mathlib.Core.Path.{_∙_}
 use native.Mathlib.Omega.{arith}
 use denote.Ref.{now}
 use borrow.Author.Needs.{needs}
-use Rattle.complexity_update.specs.Answered.{closing-file, closing-line, file-counts, long-file, long-line, none-counts, refused-file, refused-line}
+use Rattle.complexity_update.specs.Answered.{closing-file, closing-line, file-counts, long-file, long-line, none-counts, refused-file, refused-printed}
 use Rattle.complexity_update.proofs.put_answer.Statement.{statement}
 use Rattle.complexity_update.proofs.put_answer.Tie as tie
 
@@ -33,7 +33,7 @@ returns-2 c =
       (
         e .2 .0,
         e .2 .1
-            ∙ refused-line (now (a .tree)) (now (a .work)) (now (a .lent)) (now (a .output)) (s .pre .0) (s .pre .1) (s .pre .2) (left .if1 .left) (call .update .result) _ _ _ (call .update .ensures)
+            ∙ refused-printed (now (a .tree)) (now (a .work)) (now (a .lent)) (now (a .output)) (s .pre .0) (s .pre .1) (s .pre .2) (left .if1 .left) (call .update .result) _ _ _ (call .update .ensures)
             (omega (arith, test .if2 .taken)),
       ),
     )

@@ -1,5 +1,5 @@
 -- `complexity_update::put_closing` meets its contract: each part is put behind the one before.
-use mathlib.Core.List.{[], _∷_, _++_}
+use mathlib.Core.List.{[], _∷_}
 use native.Mathlib.Omega.{arith}
 use lib.ListN.{length-append}
 use denote.Ref.{now}

@@ -1,5 +1,5 @@
 -- `programs::put_refusal` meets its contract: the number, and LF behind it.
-use mathlib.Core.List.{[], _∷_, _++_}
+use mathlib.Core.List.{[], _∷_}
 use native.Mathlib.Omega.{arith}
 use lib.ListN.{length-append}
 use denote.Ref.{now}
