@@ -70,6 +70,7 @@ inside L zero es fs output = omega (arith, length-append (listing L es fs) (drop
 inside L (suc n) es fs output = omega arith
 
 module _ (tree baseline : List ℕ) where
+  -- a file is too long
   pub long-printed : (n : ℕ) → n ≡ lengthRefusal tree baseline → 1 ≤ n → decimal n ++ 10 ∷ [] ≡ checkProgram tree baseline
   unfolding lengthRefusal checkProgram
   long-printed n e h = long-line (ltb programBytes (length tree)) (ltb programBytes (length baseline)) (treeRefusal tree) _ _ n e h

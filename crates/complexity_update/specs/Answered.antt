@@ -33,10 +33,12 @@ none-counts n s e = let within : n ≤ length s = omega (arith, e) in (within, s
 
 -- the tree is too long
 module _ (tree : List ℕ) (long : 65536 < length tree) where
+  -- its line
   pub long-line : refusalLine 1 ≡ updateProgram tree
   unfolding decimal digits
   long-line = sym (update-longer tree long)
 
+  -- no file
   pub long-file : (n : ℕ) (text : List ℕ) → n ≡ 1 → writtenAt n text ≡ updateFile tree
   long-file n text e = ap (λ m. writtenAt m text) e ∙ sym (update-no-file tree long)
 
@@ -67,10 +69,12 @@ module _ (tree work records output : List ℕ) (work-zeros : work ≡ lent) (rec
   module _ (r : UpdateAnswer) (w l o : List ℕ) (updates : Updates r (updateCall gate gateLimits tree work records output) w l o) where
     -- the call refuses
     module _ (refused : 1 ≤ r .number) where
+      -- its line
       pub refused-printed : refusalLine (r .number) ≡ updateProgram tree
       unfolding lineBy
       refused-printed = refused-line (r .number) _ refused ∙ ap (λ n. printed n (closing (updateCall gate gateLimits tree work records output .answer .recorded))) (updates .number-is) ∙ line-is
 
+      -- no file
       pub refused-file : (n : ℕ) (text : List ℕ) → n ≡ r .number → writtenAt n text ≡ updateFile tree
       unfolding fileBy
       refused-file n text e =
@@ -82,6 +86,7 @@ module _ (tree work records output : List ℕ) (work-zeros : work ≡ lent) (rec
 
     -- the call writes
     module _ (done : r .number ≡ 0) where
+      -- the closing line
       pub closing-line : closing (r .recorded) ≡ updateProgram tree
       unfolding lineBy
       closing-line =
@@ -89,6 +94,7 @@ module _ (tree work records output : List ℕ) (work-zeros : work ≡ lent) (rec
           ∙ ap (λ n. printed n (closing (updateCall gate gateLimits tree work records output .answer .recorded))) (sym done ∙ updates .number-is)
           ∙ line-is
 
+      -- the file
       pub closing-file : writtenAt 0 (take (r .written) o) ≡ updateFile tree
       unfolding fileBy
       closing-file =
@@ -97,6 +103,7 @@ module _ (tree work records output : List ℕ) (work-zeros : work ≡ lent) (rec
           ∙ ap (λ m. writtenAt m (take (u .answer .written) (u .output))) (sym done ∙ updates .number-is)
           ∙ file-is
 
+    -- the file lies in the output
     pub file-counts : Counts (r .written) o
     file-counts =
         let within = written-inside r gateLimits tree work records output w l o updates in

@@ -27,11 +27,12 @@ read-whole file =
       | inr t ↦ let short = ltb-false 65536 (length file) t in inl (take-all 65537 file (omega (arith, short)))
     ]
 
+-- the report
 pub report-cut : (tree : List ℕ) → reportProgram (read tree) ≡ reportProgram tree
 report-cut tree =
     elim (read-whole tree) [ inl same ↦ ap reportProgram same | inr long ↦ report-longer (read tree) (long .0) ∙ sym (report-longer tree (long .1)) ]
 
--- the line and the file
+-- update: what is printed and what is written
 pub update-cut : (tree : List ℕ) → (updateProgram (read tree) ≡ updateProgram tree) × (updateFile (read tree) ≡ updateFile tree)
 update-cut tree =
     elim (read-whole tree) [
@@ -50,6 +51,7 @@ unfolding checkProgram
 check-long tree baseline baseline′ h h′ =
     rw (lt-ltb programBytes (length baseline) h, lt-ltb programBytes (length baseline′) h′) (long-same (ltb programBytes (length tree)) (treeRefusal tree) _ _)
 
+-- check, with both its files
 pub check-cut : (tree baseline : List ℕ) → checkProgram (read tree) (read baseline) ≡ checkProgram tree baseline
 check-cut tree baseline =
     let rest : checkProgram tree (read baseline) ≡ checkProgram tree baseline =
