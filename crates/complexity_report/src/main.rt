@@ -1,36 +1,43 @@
-// The report of the tree file on standard input, of at most 65,536 bytes. A refusal is its number and a newline; a longer tree is 1.
-use libc::STDIN_FILENO;
-use libc::STDOUT_FILENO;
+// The report of the tree file on standard input, of at most 65,536 bytes. A refusal is its number and a newline. One byte more than that is read, so
+// that a longer tree shows.
+ghost use mathlib.Core.Path.{_≡_};
+ghost use Rattle.gate_rules.specs.Programs.{reportProgram};
+ghost use Rattle.gate_rules.specs.Programs.{lent as zeros};
+ghost use Rattle.programs.specs.Lines.{Starts};
 
-// Whether there is more to read.
-fn has_more(fd: i32) -> bool {
-    let mut one = [0u8; 1];
-    io::read_full(fd, &mut one) != 0
+// The bytes that a tree may have.
+const MOST: usize = 65536;
+
+// What is printed, at the start of the output.
+fn put_answer(tree: &[u8], work: &mut [u8], lent: &mut [u8], output: &mut [u8]) -> usize
+    requires { ⌜ (now work ≡ zeros) × (now lent ≡ zeros) × (now output ≡ zeros) ⌝ }
+    ensures { λ r. ⌜ Starts r (now (output .exit)) (reportProgram (now (tree .entry))) ⌝ }
+{
+    if MOST < tree.len() {
+        return programs::put_refusal(output, 1);
+    }
+    let r = gate_report::report_alone(tree, work, lent, output);
+    if r.number != 0 {
+        return programs::put_refusal(output, r.number);
+    }
+    r.written as usize
 }
 
-// The report, or the number of what was refused.
+// Prints the report.
 fn answer(tree: &[u8]) {
     let mut work = [0u8; 65536];
-    let mut records = [0u8; 65536];
+    let mut lent = [0u8; 65536];
     let mut output = [0u8; 65536];
-    let r = gate_report::report_alone(tree, &mut work, &mut records, &mut output);
-    if r.number != 0 {
-        io::print_decimal(STDOUT_FILENO, r.number as u64);
-        io::write_all(STDOUT_FILENO, b"\n");
-        return;
-    }
-    let written = r.written as usize;
-    if written <= output.len() {
-        io::write_all(STDOUT_FILENO, &output[..written]);
-    }
+    let n = put_answer(tree, &mut work, &mut lent, &mut output);
+    programs::print(&output[..n]);
 }
 
 fn main() {
-    let mut tree = [0u8; 65536];
-    let n = io::read_full(STDIN_FILENO, &mut tree);
-    if has_more(STDIN_FILENO) {
-        io::write_all(STDOUT_FILENO, b"1\n");
+    let mut tree = [0u8; 65537];
+    let t = programs::read_tree(&mut tree);
+    if t.failed {
         return;
     }
-    answer(&tree[..n]);
+    let end = t.count;
+    answer(&tree[..end]);
 }
