@@ -26,6 +26,7 @@ use Rattle.source.specs.declared.Measure.the-variants.{Counted, Nothing}
 use Rattle.source.specs.declared.Signature.{Signature}
 use Rattle.source.specs.declared.Signature.the-variants.{Whole, Broken}
 use Rattle.source.specs.declared.Span.{Span}
+use Rattle.source.specs.declared.Spot.{Spot}
 use Rattle.source.specs.declared.Step.{Step}
 use Rattle.source.specs.declared.Step.the-variants.{Function, End}
 use Rattle.source.specs.declared.Turn.{Turn}
@@ -86,6 +87,17 @@ pub record Passes (s : List ℕ) (c d : Cursor) : Type 0 where
   pub same : remaining s c ≡ remaining s d
   pub ready : Ready s d
   pub further : d .at ≡ c .at + 1
+
+-- a cursor at another place
+abbrev pub movedTo : Cursor → ℕ → ℕ → Cursor
+movedTo c at line = record { at = at; line = line; «span_end» = c .«span_end»; resume = c .resume; spanless = c .spanless; «barren_from» = c .«barren_from»; «barren_to» = c .«barren_to»; learnt = c .learnt }
+
+-- from one place to another stand only bytes at which nothing begins: a cursor may go there
+pub record Quieter (s : List ℕ) (from start : ℕ) (r : Spot) : Type 0 where
+  pub further : from ≤ r .at
+  pub inside : r .at ≤ length s
+  pub line-most : r .line ≤ r .at + 1
+  pub passes : (c : Cursor) → c .at ≡ from → c .line ≡ start → Ready s c → Ready s (movedTo c (r .at) (r .line)) × (remaining s c ≡ remaining s (movedTo c (r .at) (r .line)))
 
 abbrev pub Stepped : List ℕ → Cursor → Step → Type 0
 Stepped s c (Function f d) = Yields s c f d

@@ -23,7 +23,7 @@ use Rattle.source_rules.specs.TextScanSteps.{byteBefore, function-at, functions
 use Rattle.source_rules.specs.WalkSteps.{functions-end, functions-some, sought-no-word}
 use Rattle.search.specs.Place.{Learned}
 use Rattle.search.specs.declared.Learnt.{Learnt}
-use Rattle.source.specs.Cursors.{Barren, Closed, FoundAt, MeasuredAt, Passes, Ready, SpanAt, Spanless, Yields, remaining, remainingAt, textFun}
+use Rattle.source.specs.Cursors.{Barren, Closed, FoundAt, MeasuredAt, Passes, Quieter, Ready, SpanAt, Spanless, Yields, movedTo, remaining, remainingAt, textFun}
 use Rattle.source.specs.declared.Brackets.{Brackets}
 use Rattle.source.specs.declared.Cursor.{Cursor}
 use Rattle.source.specs.declared.Found.{Found}
@@ -127,6 +127,29 @@ quiet s c h ready (m, n) line e =
     passes s c h ready span here line e
     (sought-no-word (c .«span_end» - c .at) (c .resume - c .at) (byteBefore s (c .at)) (drop (c .at) s) (other-byte s (c .at) h (byteBefore s (c .at)) n))
     (c .«barren_from») (c .«barren_to») (c .learnt) (ready .no-function) (ready .learned)
+
+-- quiet bytes, one after another
+pub quieter-here : (s : List ℕ) (from start : ℕ) → from ≤ length s → start ≤ from + 1 → Quieter s from start (record { at = from; line = start })
+quieter-here s from start h k =
+    record {
+      further = omega arith;
+      inside = h;
+      line-most = k;
+      passes = λ c e d r. subst (λ at. Goes c at start) e (subst (λ line. Goes c (c .at) line) d (r, refl));
+    }
+  where
+    Goes : Cursor → ℕ → ℕ → Type 0
+    Goes c at line = Ready s (movedTo c at line) × (remaining s c ≡ remaining s (movedTo c at line))
+
+pub quieter-next : (s : List ℕ) (from start at line : ℕ) → Quieter s from start (record { at = at; line = line }) → at < length s → (getD s at 0 ≢ hash) × (getD s at 0 ≢ 102) → (next : ℕ) → next ≡ countAfter lf (getD s at 0) line
+    → Quieter s from start (record { at = at + 1; line = next })
+quieter-next s from start at line q h n next e =
+    record {
+      further = omega (arith, q .further);
+      inside = omega arith;
+      line-most = omega (arith, q .line-most, count-after lf (getD s at 0) line);
+      passes = λ c i j r. let (k, m) = q .passes c i j r in let p = quiet s (movedTo c at line) h k n next e in (p .ready, m ∙ p .same);
+    }
 
 -- a turn that finds a function finds it for every cursor that has the same functions
 pub yields-later : (s : List ℕ) (b c : Cursor) (f : Found) (d : Cursor) → remaining s c ≡ remaining s b → b .at ≤ c .at → Yields s c f d → Yields s b f d

@@ -13,7 +13,7 @@ ghost use lib.ListN.{length, getD};
 ghost use Rattle.text_rules.specs.Classes.{braceOpen, hash};
 ghost use Rattle.search.specs.Place.{Learned};
 ghost use Rattle.source_rules.specs.TextScan.{functions};
-ghost use Rattle.source.specs.Cursors.{Barren, Blocked, Closed, FoundAt, Measures, Ready, Signed, SpanAt, Stepped, Turned, remaining};
+ghost use Rattle.source.specs.Cursors.{Barren, Blocked, Closed, FoundAt, Measures, Quieter, Ready, Signed, SpanAt, Stepped, Turned, remaining};
 
 // Where the search for functions stands in a text.
 pub struct Cursor {
@@ -220,6 +220,30 @@ fn is_quiet(b: u8) -> bool
     true
 }
 
+// A place, and its line.
+struct Spot {
+    at: usize,
+    line: usize,
+}
+
+// The next byte that is not quiet, or the end of the text.
+fn quiet_end(s: &[u8], from: usize, start: usize) -> Spot
+    requires { ⌜ (from ≤ length (now s)) × (start ≤ from + 1) ⌝ }
+    ensures { λ r. ⌜ Quieter (now (s .entry)) from start r ⌝ }
+{
+    let mut at = from;
+    let mut line = start;
+    while at < s.len() {
+        let b = s[at];
+        if !is_quiet(b) {
+            return Spot { at, line };
+        }
+        line = search::count_after(b'\n', b, line);
+        at += 1;
+    }
+    Spot { at, line }
+}
+
 // The start of a text.
 pub fn start(s: &[u8]) -> Cursor
     ensures { λ r. ⌜ Ready (now (s .entry)) r × (remaining (now (s .entry)) r ≡ functions (now (s .entry))) ⌝ }
@@ -359,20 +383,19 @@ impl Cursor {
     {
         let mut c = self;
         while c.at < s.len() {
-            let at = c.at;
-            let b = s[at];
-            if is_quiet(b) {
-                c.line = search::count_after(b'\n', b, c.line);
-                c.at = at + 1;
-            } else {
-                let t = c.turn_at(s);
-                match t {
-                    Turn::Yield(f, d) => {
-                        return Step::Function(f, d);
-                    }
-                    Turn::Past(d) => {
-                        c = d;
-                    }
+            let q = quiet_end(s, c.at, c.line);
+            c.at = q.at;
+            c.line = q.line;
+            if c.at == s.len() {
+                return Step::End;
+            }
+            let t = c.turn_at(s);
+            match t {
+                Turn::Yield(f, d) => {
+                    return Step::Function(f, d);
+                }
+                Turn::Past(d) => {
+                    c = d;
                 }
             }
         }

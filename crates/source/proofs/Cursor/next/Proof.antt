@@ -4,8 +4,8 @@ use mathlib.Core.Path.{_≡_, refl, subst, sym, _∙_}
 use native.Mathlib.Omega.{arith}
 use borrow.Author.Needs.{needs}
 use lib.ListN.{length}
-use Rattle.source.specs.Cursors.{Passes, Ready, Turned, Yields, remaining}
-use Rattle.source.specs.Steps.{quiet, remaining-end, yields-later}
+use Rattle.source.specs.Cursors.{Passes, Ready, Turned, Yields, movedTo, remaining}
+use Rattle.source.specs.Steps.{remaining-end, yields-later}
 use Rattle.source.proofs.Cursor.next.Statement.{statement}
 use Rattle.source.proofs.Cursor.next.Tie as tie
 
@@ -18,42 +18,63 @@ abbrev μ-loop : tie.MeasureT-loop
 loop-holds : tie.Need-loop-holds Inv-loop μ-loop
 loop-holds c = (c .before .pre, refl, omega arith)
 
-loop-again : tie.Need-loop-again Inv-loop μ-loop
-loop-again c =
-    let q = c .before .before in
-    let l = q .before .before .before .before in
-    let b = l .before .before in
-    let p = quiet (b .args .s .now) (l .loop .c) (q .before .before .if1 .taken) (l .loop .inv .0) (q .is-quiet .ensures (c .before .if2 .taken)) (c .count-after .result) (c .count-after .ensures .0) in
-    (p .ready, sym (p .same) ∙ l .loop .inv .1, omega arith)
+quiet-end-requires : tie.Need-quiet-end-requires Inv-loop μ-loop
+quiet-end-requires c κs =
+    let r = c .before .before .loop .inv .0 in
+    (r .inside, r .line-most)
 
 returns : tie.Need-returns Inv-loop μ-loop
 returns c =
-    let t = c .before .before .before in
-    let l = t .before .before .before .before .before .before in
-    let b = l .before .before in
-    let y : Yields (b .args .s .now) (l .loop .c) (c .before .t .given .0 .0) (c .before .t .given .0 .1 .0) = subst (Turned (b .args .s .now) (l .loop .c)) (c .before .t .given .1) (t .turn-at .ensures) in
-    yields-later (b .args .s .now) (b .args .self) (l .loop .c) (c .before .t .given .0 .0) (c .before .t .given .0 .1 .0) (l .loop .inv .1) (l .loop .inv .2) y
+    let l = c .before .before .before .before .before in
+    let b = c .before .before .before .before .before .before .before in
+    let q = c .before .before .quiet-end in
+    let (ready, same) = q .ensures .passes (l .loop .c) refl refl (l .loop .inv .0) in
+    sym (l .loop .inv .1) ∙ same ∙ remaining-end (b .args .s .now) (movedTo (l .loop .c) (q .result .at) (q .result .line)) (omega (arith, c .if2 .taken))
 
-loop-less-2 : tie.Need-loop-less-2 Inv-loop μ-loop
-loop-less-2 c =
-    let t = c .before .before .before in
-    let l = t .before .before .before .before .before .before in
-    let b = l .before .before in
-    let p : Passes (b .args .s .now) (l .loop .c) (c .before .t2 .given .0 .0) = subst (Turned (b .args .s .now) (l .loop .c)) (c .before .t2 .given .1) (t .turn-at .ensures) in
-    omega (arith, p .further)
-
-loop-again-2 : tie.Need-loop-again-2 Inv-loop μ-loop
-loop-again-2 c =
-    let t = c .before .before .before in
-    let l = t .before .before .before .before .before .before in
-    let b = l .before .before in
-    let p : Passes (b .args .s .now) (l .loop .c) (c .before .t2 .given .0 .0) = subst (Turned (b .args .s .now) (l .loop .c)) (c .before .t2 .given .1) (t .turn-at .ensures) in
-    (p .ready, sym (p .same) ∙ l .loop .inv .1, omega (arith, p .further))
+turn-at-requires : tie.Need-turn-at-requires Inv-loop μ-loop
+turn-at-requires c κs =
+    let l = c .before .before .before .before .before in
+    let b = c .before .before .before .before .before .before .before in
+    let q = c .before .before .quiet-end in
+    let (ready, same) = q .ensures .passes (l .loop .c) refl refl (l .loop .inv .0) in
+    (omega (arith, c .if2 .left, q .ensures .inside), ready)
 
 returns-2 : tie.Need-returns-2 Inv-loop μ-loop
 returns-2 c =
+    let l = c .before .before .before .before .before .before .before .before .before in
+    let b = c .before .before .before .before .before .before .before .before .before .before .before in
+    let q = c .before .before .before .before .before .before .quiet-end in
+    let (ready, same) = q .ensures .passes (l .loop .c) refl refl (l .loop .inv .0) in
+    let m = movedTo (l .loop .c) (q .result .at) (q .result .line) in
+    let f = c .before .t .given .0 .0 in
+    let d = c .before .t .given .0 .1 .0 in
+    let y : Yields (b .args .s .now) m f d = subst (Turned (b .args .s .now) m) (c .before .t .given .1) (c .before .before .before .turn-at .ensures) in
+    yields-later (b .args .s .now) (b .args .self) m f d (sym same ∙ l .loop .inv .1) (omega (arith, l .loop .inv .2, q .ensures .further)) y
+
+loop-less : tie.Need-loop-less Inv-loop μ-loop
+loop-less c =
+    let l = c .before .before .before .before .before .before .before .before .before in
+    let b = c .before .before .before .before .before .before .before .before .before .before .before in
+    let q = c .before .before .before .before .before .before .quiet-end in
+    let (ready, same) = q .ensures .passes (l .loop .c) refl refl (l .loop .inv .0) in
+    let m = movedTo (l .loop .c) (q .result .at) (q .result .line) in
+    let p : Passes (b .args .s .now) m (c .before .t2 .given .0 .0) = subst (Turned (b .args .s .now) m) (c .before .t2 .given .1) (c .before .before .before .turn-at .ensures) in
+    omega (arith, p .further, q .ensures .further, c .before .before .before .before .before .before .before .if1 .taken)
+
+loop-again : tie.Need-loop-again Inv-loop μ-loop
+loop-again c =
+    let l = c .before .before .before .before .before .before .before .before .before in
+    let b = c .before .before .before .before .before .before .before .before .before .before .before in
+    let q = c .before .before .before .before .before .before .quiet-end in
+    let (ready, same) = q .ensures .passes (l .loop .c) refl refl (l .loop .inv .0) in
+    let m = movedTo (l .loop .c) (q .result .at) (q .result .line) in
+    let p : Passes (b .args .s .now) m (c .before .t2 .given .0 .0) = subst (Turned (b .args .s .now) m) (c .before .t2 .given .1) (c .before .before .before .turn-at .ensures) in
+    (p .ready, sym (p .same) ∙ sym same ∙ l .loop .inv .1, omega (arith, p .further, q .ensures .further, l .loop .inv .2))
+
+returns-3 : tie.Need-returns-3 Inv-loop μ-loop
+returns-3 c =
     let l = c .before .before in
-    let b = l .before .before in
+    let b = c .before .before .before .before in
     sym (l .loop .inv .1) ∙ remaining-end (b .args .s .now) (l .loop .c) (omega arith)
 
 pub next-spec : {M : Type 1} → statement M
@@ -63,16 +84,12 @@ next-spec =
     Inv-loop
     μ-loop
     loop-holds
-    (λ c. search needs)
-    (λ c κs. search needs)
-    (λ c κs. search needs)
-    (λ c. search needs)
-    (λ c. omega arith)
-    loop-again
-    (λ c κs. search needs)
-    (λ c. search needs)
+    quiet-end-requires
     returns
+    turn-at-requires
     (λ c. search needs)
-    loop-less-2
-    loop-again-2
-    returns-2)
+    returns-2
+    (λ c. search needs)
+    loop-less
+    loop-again
+    returns-3)
