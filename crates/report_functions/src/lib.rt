@@ -149,7 +149,7 @@ fn is_tied(tree: &[u8], limits: Limits, g: Function, f: Function) -> bool
     requires { ⌜ Lies (now tree) g × Lies (now tree) f ⌝ }
     ensures { λ r. ⌜ Decides (Alike (limitsOf limits) (shown (now (tree .entry)) g) (shown (now (tree .entry)) f)) r ⌝ }
 {
-    if f.cyclomatic != g.cyclomatic {
+    if g.cyclomatic != f.cyclomatic {
         return false;
     }
     if !functions::is_over(limits, f) {

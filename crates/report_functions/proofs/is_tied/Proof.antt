@@ -16,7 +16,7 @@ use Rattle.report_functions.proofs.is_tied.Tie as tie
 returns : tie.Need-returns
 returns c =
     let a = c .before .before .before .before .args in
-    never (other-branches (limitsOf (a .limits)) (shown (now (a .tree)) (a .g)) (shown (now (a .tree)) (a .f)) (c .if1 .taken))
+    never (other-branches (limitsOf (a .limits)) (shown (now (a .tree)) (a .g)) (shown (now (a .tree)) (a .f)) (λ e. c .if1 .taken (sym e)))
 
 returns-2 : tie.Need-returns-2
 returns-2 c =
@@ -28,7 +28,7 @@ returns-3 c =
     let a = c .before .before .before .before .before .before .before .before .before .args in
     let g = shown (now (a .tree)) (a .g) in
     let f = shown (now (a .tree)) (a .f) in
-    let e = c .before .before .before .before .before .if1 .left in
+    let e : f .cyclomatic ≡ g .cyclomatic = sym (c .before .before .before .before .before .if1 .left) in
     let o : over (limitsOf (a .limits)) f ≡ _ = sym (c .before .before .before .before .is-over .ensures (now (a .tree))) ∙ not-false _ (c .before .before .before .if2 .left) in
     let s : c .same-bytes .result ≡ same (g .path) (f .path) = c .same-bytes .ensures ∙ ap₂ same (c .before .before .path-of .ensures) (c .before .path-of2 .ensures) in
     record { yes = λ h. same-path (limitsOf (a .limits)) g f e o (sym s ∙ h); no = λ h. other-path (limitsOf (a .limits)) g f e (sym s ∙ h) }
