@@ -3,3 +3,4 @@ mod Fields
 mod Finds
 mod Keys
 mod Numbers
+mod Rise

@@ -1,2 +1,3 @@
 pub mod Reads
 pub mod Steps
+pub mod Ordered

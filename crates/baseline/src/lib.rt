@@ -11,6 +11,7 @@ ghost use Rattle.text_rules.specs.Search.{bytesBefore, part};
 ghost use Rattle.text_rules.specs.Utf8.{isUtf8};
 ghost use Rattle.gate_rules.specs.Baseline.{entriesOfLines, entryOf, entryWith, lookup};
 ghost use Rattle.gate_rules.specs.Functions.{keyOf};
+ghost use Rattle.baseline.specs.Ordered.{Unfalling, fallen, keysIn, latest};
 ghost use Rattle.baseline.specs.Reads.{Inside, KeyInside, acceptedBy, entryIn, hit, keyIn, keyOfEntry, later, lineAt, numberOf};
 
 const TAB: u8 = b'\t';
@@ -236,6 +237,49 @@ pub fn key_at(baseline: &[u8], from: usize, to: usize) -> Key
         Line::Entry(e) => Key::Bytes(from, from + e.name_end),
         Line::Nothing => Key::Nothing,
     }
+}
+
+// Whether the key of a line stands before the last key before it. Where there is none, it does not.
+fn falls(baseline: &[u8], last: Key, here: Key) -> bool
+    requires { ⌜ KeyInside (now baseline) last × KeyInside (now baseline) here ⌝ }
+    ensures { λ r. ⌜ r ≡ fallen (keyIn (now (baseline .entry)) last) (keyIn (now (baseline .entry)) here) ⌝ }
+{
+    match here {
+        Key::Bytes(from, to) => match last {
+            Key::Bytes(a, b) => order::before(&baseline[from..to], &baseline[a..b]),
+            Key::Nothing => false,
+        },
+        Key::Nothing => false,
+    }
+}
+
+// The last key, after a line more.
+fn latest(last: Key, here: Key) -> Key
+    ensures { λ r. ⌜ r ≡ latest last here ⌝ }
+{
+    match here {
+        Key::Bytes(from, to) => Key::Bytes(from, to),
+        Key::Nothing => last,
+    }
+}
+
+// Whether no key stands before that of an earlier line, as in a baseline that update wrote.
+pub fn keys_rise(baseline: &[u8]) -> bool
+    ensures { λ r. ⌜ (r ≡ true → Unfalling (keysIn (now (baseline .entry)))) ⌝ }
+{
+    let mut last = Key::Nothing;
+    let mut from = 0;
+    while from < baseline.len() {
+        let end = line_end(baseline, from);
+        let to = trimmed_end(baseline, from, end);
+        let here = key_at(baseline, from, to);
+        if falls(baseline, last, here) {
+            return false;
+        }
+        last = latest(last, here);
+        from = end + 1;
+    }
+    true
 }
 
 // The measures that an entry accepts.
