@@ -1,5 +1,5 @@
 // The stale keys: those of entries that no function of the tree has. They are taken one by one in byte order of the whole key, each once.
-// Keys stay where they are, in the lines of the baseline.
+// Keys stay where they are, in the lines of the baseline. Where they never fall there, as in a file that update wrote, they are taken in one pass.
 ghost use mathlib.Core.Path.{_≡_};
 ghost use mathlib.Core.List.{List, [], _∷_, _++_, map};
 ghost use Prim.Native.Nat.{ℕ, _+_, _≤_};
@@ -14,8 +14,10 @@ ghost use Rattle.gate_rules.specs.Functions.{key};
 ghost use Rattle.gate_rules.specs.Gate.{gate};
 ghost use Rattle.gate_rules.specs.Scan.{functionsOf};
 ghost use Rattle.functions.specs.Shown.{Lies, Stand, shown};
+ghost use Rattle.baseline.specs.Ordered.{Unfalling, keysIn};
 ghost use Rattle.baseline.specs.Reads.{KeyInside, keyIn};
 ghost use Rattle.order.specs.Best.{Best};
+ghost use Rattle.stale.specs.InOrder.{Past, fits};
 ghost use Rattle.stale.specs.Taken.{Fit, AllStand, ahead, behind, keyList, nextStale, staleIn};
 use baseline::Key;
 use functions::Function;
@@ -150,6 +152,90 @@ pub fn next_stale(tree: &[u8], lent: &[u8], n: usize, lines: &[u8], last: Key) -
     best
 }
 
+// Whether the key of a line is stale and behind the last one that was taken. Whether a function has it is asked last, as that costs most.
+fn is_next(tree: &[u8], lent: &[u8], n: usize, lines: &[u8], last: Key, here: Key) -> bool
+    requires { ⌜ AllStand (now tree) (now lent) n × KeyInside (now lines) last × KeyInside (now lines) here ⌝ }
+    ensures { λ r. ⌜ r ≡ fits (map key (functionsOf gate (now (tree .entry)))) (keyIn (now (lines .entry)) last) (keyIn (now (lines .entry)) here) ⌝ }
+{
+    match here {
+        Key::Bytes(from, to) => {
+            if !is_behind(lines, last, from, to) {
+                return false;
+            }
+            !is_live(tree, lent, n, &lines[from..to])
+        }
+        Key::Nothing => false,
+    }
+}
+
+// A stale key, and a place behind its line.
+pub struct Next {
+    pub key: Key,
+    pub place: usize,
+}
+
+// The first stale key behind the last one, where keys never fall. No key in front of the place is behind the last one.
+fn next_in_order(tree: &[u8], lent: &[u8], n: usize, lines: &[u8], last: Key, place: usize) -> Next
+    requires { ⌜
+        AllStand (now tree) (now lent) n
+        × KeyInside (now lines) last
+        × Unfalling (keysIn (now lines))
+        × Past (now lines) (keyIn (now lines) last) place
+        ⌝ }
+    ensures { λ r. ⌜
+        KeyInside (now (lines .entry)) (r .key)
+        × (keyIn (now (lines .entry)) (r .key) ≡ nextStale (entriesOfLines (now (lines .entry))) (functionsOf gate (now (tree .entry))) (keyIn (now (lines .entry)) last))
+        × Past (now (lines .entry)) (keyIn (now (lines .entry)) (r .key)) (r .place)
+        ⌝ }
+{
+    let mut from = place;
+    while from < lines.len() {
+        let end = baseline::line_end(lines, from);
+        let to = baseline::trimmed_end(lines, from, end);
+        let here = baseline::key_at(lines, from, to);
+        if is_next(tree, lent, n, lines, last, here) {
+            return Next {
+                key: here,
+                place: end + 1,
+            };
+        }
+        from = end + 1;
+    }
+    Next {
+        key: Key::Nothing,
+        place: 0,
+    }
+}
+
+// The first stale key behind the last one. Where keys never fall, no key in front of the place is behind the last one.
+fn step(
+    tree: &[u8],
+    lent: &[u8],
+    n: usize,
+    lines: &[u8],
+    ordered: bool,
+    last: Key,
+    place: usize,
+) -> Next
+    requires { ⌜
+        AllStand (now tree) (now lent) n
+        × KeyInside (now lines) last
+        × (ordered ≡ true → Unfalling (keysIn (now lines)))
+        × (ordered ≡ true → Past (now lines) (keyIn (now lines) last) place)
+        ⌝ }
+    ensures { λ r. ⌜
+        KeyInside (now (lines .entry)) (r .key)
+        × (keyIn (now (lines .entry)) (r .key) ≡ nextStale (entriesOfLines (now (lines .entry))) (functionsOf gate (now (tree .entry))) (keyIn (now (lines .entry)) last))
+        × (ordered ≡ true → Past (now (lines .entry)) (keyIn (now (lines .entry)) (r .key)) (r .place))
+        ⌝ }
+{
+    if ordered {
+        return next_in_order(tree, lent, n, lines, last, place);
+    }
+    let key = next_stale(tree, lent, n, lines, last);
+    Next { key, place: 0 }
+}
+
 // How many stale keys there are, and the bytes of their lines.
 pub fn measure(tree: &[u8], lent: &[u8], n: usize, lines: &[u8]) -> Size
     requires { ⌜ AllStand (now tree) (now lent) n × (isUtf8 (now lines) ≡ true) × (length (now lines) ≤ 33554432) ⌝ }
@@ -160,16 +246,20 @@ pub fn measure(tree: &[u8], lent: &[u8], n: usize, lines: &[u8]) -> Size
         × (r .bytes ≤ 90000000)
         ⌝ }
 {
+    let ordered = baseline::keys_rise(lines);
     let mut last = Key::Nothing;
+    let mut place: usize = 0;
     let mut count: usize = 0;
     let mut bytes: usize = 0;
     loop {
-        let next = next_stale(tree, lent, n, lines, last);
-        match next {
+        let next = step(tree, lent, n, lines, ordered, last, place);
+        let key = next.key;
+        match key {
             Key::Bytes(from, to) => {
                 count += 1;
                 bytes += 3 + (to - from);
                 last = Key::Bytes(from, to);
+                place = next.place;
             }
             Key::Nothing => {
                 return Size { count, bytes };
@@ -211,15 +301,19 @@ pub fn put_all(
         × (now (out .exit) ≡ putAt at (listed (map spaced (staleIn (now (tree .entry)) (now (lines .entry))))) (now (out .entry)))
         ⌝ }
 {
+    let ordered = baseline::keys_rise(lines);
     let mut last = Key::Nothing;
+    let mut place: usize = 0;
     let mut done = at;
     let mut k: usize = 0;
     while k < count {
-        let next = next_stale(tree, lent, n, lines, last);
-        match next {
+        let next = step(tree, lent, n, lines, ordered, last, place);
+        let key = next.key;
+        match key {
             Key::Bytes(from, to) => {
                 done = put_key(out, done, &lines[from..to]);
                 last = Key::Bytes(from, to);
+                place = next.place;
                 k += 1;
             }
             Key::Nothing => {
