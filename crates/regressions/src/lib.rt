@@ -1,6 +1,7 @@
 // The regression lines of check: each function of a scanned tree against what the baseline accepts of it. The lines are measured first, so that a caller
 // knows how many bytes they take before any of them is written.
 ghost use mathlib.Core.Path.{_≡_};
+ghost use mathlib.Core.Bool.{true};
 ghost use mathlib.Core.List.{List};
 ghost use Prim.Native.Nat.{ℕ, _+_, _≤_};
 ghost use lib.Dec.{ltb};
@@ -12,6 +13,7 @@ ghost use Rattle.gate_rules.specs.Functions.{key};
 ghost use Rattle.gate_rules.specs.Gate.{gate};
 ghost use Rattle.gate_rules.specs.Scan.{functionsOf};
 ghost use Rattle.functions.specs.Shown.{Lies, Stand, limitsOf, shown};
+ghost use Rattle.baseline.specs.Ordered.{Unfalling, keysIn};
 ghost use Rattle.baseline.specs.Reads.{acceptedBy};
 ghost use Rattle.regressions.specs.Lines.{Measured, Small, Written, accepts, branchesLength, branchesOf, entryOf, grownOf, linesLength, linesOf, newLength, newOf, pair, pairLength, startLength, started, told};
 use baseline::Accepted;
@@ -240,15 +242,18 @@ fn put_new(tree: &[u8], f: Function, limits: Limits, out: &mut [u8], at: usize) 
 
 // ---- one function
 
-// What the baseline accepts of a function.
-fn accepted(tree: &[u8], f: Function, lines: &[u8]) -> Accepted
-    requires { ⌜ Lies (now tree) f ⌝ }
+// What the baseline accepts of a function. Where its keys never fall, they are not all read.
+fn accepted(tree: &[u8], f: Function, lines: &[u8], ordered: bool) -> Accepted
+    requires { ⌜ Lies (now tree) f × (ordered ≡ true → Unfalling (keysIn (now lines))) ⌝ }
     ensures { λ r. ⌜ r ≡ acceptedBy (lookup (key (shown (now (tree .entry)) f)) (entriesOfLines (now (lines .entry)))) ⌝ }
 {
     let from = f.path_at;
     let to = f.path_end;
     let start = f.name_at;
     let end = f.name_end;
+    if ordered {
+        return baseline::lookup_ordered(lines, &tree[from..to], &tree[start..end]);
+    }
     baseline::lookup(lines, &tree[from..to], &tree[start..end])
 }
 
@@ -323,12 +328,13 @@ pub fn measure(tree: &[u8], lent: &[u8], n: usize, lines: &[u8], limits: Limits)
         × (r .bytes ≤ 655360000000)
         ⌝ }
 {
+    let ordered = baseline::keys_rise(lines);
     let mut count: usize = 0;
     let mut bytes: usize = 0;
     let mut k = 0;
     while k < n {
         let f = functions::function_at(tree, lent, k);
-        let size = size_against(f, accepted(tree, f, lines), limits);
+        let size = size_against(f, accepted(tree, f, lines, ordered), limits);
         count += size.count;
         bytes += size.bytes;
         k += 1;
@@ -356,11 +362,12 @@ pub fn put_all(
         × (now (out .exit) ≡ putAt at (listed (regressions (limitsOf limits) (entriesOfLines (now (lines .entry))) (functionsOf gate (now (tree .entry))))) (now (out .entry)))
         ⌝ }
 {
+    let ordered = baseline::keys_rise(lines);
     let mut next = at;
     let mut k = 0;
     while k < n {
         let f = functions::function_at(tree, lent, k);
-        next = put_against(tree, f, accepted(tree, f, lines), limits, out, next);
+        next = put_against(tree, f, accepted(tree, f, lines, ordered), limits, out, next);
         k += 1;
     }
     next
