@@ -206,7 +206,7 @@ pub fn entry(line: &[u8]) -> Line
     measured(line, a, b, c, d)
 }
 
-// Whether the bytes are those of path, tab and name.
+// Whether the bytes are those of path, tab and name. The name is compared first: it tells the functions of a file apart.
 pub fn is_key(key: &[u8], path: &[u8], name: &[u8]) -> bool
     ensures { λ r. ⌜ r ≡ same (now (key .entry)) (keyOf (now (path .entry)) (now (name .entry))) ⌝ }
 {
@@ -217,10 +217,10 @@ pub fn is_key(key: &[u8], path: &[u8], name: &[u8]) -> bool
     if key[n] != TAB {
         return false;
     }
-    if !order::same_bytes(&key[..n], path) {
+    if !order::same_bytes(&key[n + 1..], name) {
         return false;
     }
-    order::same_bytes(&key[n + 1..], name)
+    order::same_bytes(&key[..n], path)
 }
 
 // The key of an entry, by its bounds in the baseline.

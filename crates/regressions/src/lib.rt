@@ -367,7 +367,14 @@ pub fn put_all(
     let mut k = 0;
     while k < n {
         let f = functions::function_at(tree, lent, k);
-        next = put_against(tree, f, accepted(tree, f, lines, ordered), limits, out, next);
+        next = put_against(
+            tree,
+            f,
+            accepted(tree, f, lines, ordered),
+            limits,
+            out,
+            next,
+        );
         k += 1;
     }
     next
