@@ -319,8 +319,15 @@ fn put_against(
 // ---- all functions
 
 // How many regression lines there are, and the bytes of all of them as they are listed.
-pub fn measure(tree: &[u8], lent: &[u8], n: usize, lines: &[u8], limits: Limits) -> Size
-    requires { ⌜ Stand (now tree) (now lent) × (n ≡ length (functionsOf gate (now tree))) ⌝ }
+pub fn measure(
+    tree: &[u8],
+    lent: &[u8],
+    n: usize,
+    lines: &[u8],
+    ordered: bool,
+    limits: Limits,
+) -> Size
+    requires { ⌜ Stand (now tree) (now lent) × (n ≡ length (functionsOf gate (now tree))) × (ordered ≡ true → Unfalling (keysIn (now lines))) ⌝ }
     ensures { λ r. ⌜
         (r .count ≡ length (regressions (limitsOf limits) (entriesOfLines (now (lines .entry))) (functionsOf gate (now (tree .entry)))))
         × (r .bytes ≡ length (listed (regressions (limitsOf limits) (entriesOfLines (now (lines .entry))) (functionsOf gate (now (tree .entry))))))
@@ -328,7 +335,6 @@ pub fn measure(tree: &[u8], lent: &[u8], n: usize, lines: &[u8], limits: Limits)
         × (r .bytes ≤ 655360000000)
         ⌝ }
 {
-    let ordered = baseline::keys_rise(lines);
     let mut count: usize = 0;
     let mut bytes: usize = 0;
     let mut k = 0;
@@ -348,6 +354,7 @@ pub fn put_all(
     lent: &[u8],
     n: usize,
     lines: &[u8],
+    ordered: bool,
     limits: Limits,
     out: &mut [u8],
     at: usize,
@@ -356,13 +363,13 @@ pub fn put_all(
         Stand (now tree) (now lent)
         × (n ≡ length (functionsOf gate (now tree)))
         × (at + length (listed (regressions (limitsOf limits) (entriesOfLines (now lines)) (functionsOf gate (now tree)))) ≤ length (now out))
+        × (ordered ≡ true → Unfalling (keysIn (now lines)))
         ⌝ }
     ensures { λ r. ⌜
         (r ≡ at + length (listed (regressions (limitsOf limits) (entriesOfLines (now (lines .entry))) (functionsOf gate (now (tree .entry))))))
         × (now (out .exit) ≡ putAt at (listed (regressions (limitsOf limits) (entriesOfLines (now (lines .entry))) (functionsOf gate (now (tree .entry))))) (now (out .entry)))
         ⌝ }
 {
-    let ordered = baseline::keys_rise(lines);
     let mut next = at;
     let mut k = 0;
     while k < n {

@@ -237,8 +237,13 @@ fn step(
 }
 
 // How many stale keys there are, and the bytes of their lines.
-pub fn measure(tree: &[u8], lent: &[u8], n: usize, lines: &[u8]) -> Size
-    requires { ⌜ AllStand (now tree) (now lent) n × (isUtf8 (now lines) ≡ true) × (length (now lines) ≤ 33554432) ⌝ }
+pub fn measure(tree: &[u8], lent: &[u8], n: usize, lines: &[u8], ordered: bool) -> Size
+    requires { ⌜
+        AllStand (now tree) (now lent) n
+        × (isUtf8 (now lines) ≡ true)
+        × (length (now lines) ≤ 33554432)
+        × (ordered ≡ true → Unfalling (keysIn (now lines)))
+        ⌝ }
     ensures { λ r. ⌜
         (r .count ≡ length (staleIn (now (tree .entry)) (now (lines .entry))))
         × (r .bytes ≡ length (listed (map spaced (staleIn (now (tree .entry)) (now (lines .entry))))))
@@ -246,7 +251,6 @@ pub fn measure(tree: &[u8], lent: &[u8], n: usize, lines: &[u8]) -> Size
         × (r .bytes ≤ 90000000)
         ⌝ }
 {
-    let ordered = baseline::keys_rise(lines);
     let mut last = Key::Nothing;
     let mut place: usize = 0;
     let mut count: usize = 0;
@@ -287,6 +291,7 @@ pub fn put_all(
     lent: &[u8],
     n: usize,
     lines: &[u8],
+    ordered: bool,
     count: usize,
     out: &mut [u8],
     at: usize,
@@ -295,13 +300,13 @@ pub fn put_all(
         AllStand (now tree) (now lent) n
         × (count ≡ length (staleIn (now tree) (now lines)))
         × (at + length (listed (map spaced (staleIn (now tree) (now lines)))) ≤ length (now out))
+        × (ordered ≡ true → Unfalling (keysIn (now lines)))
         ⌝ }
     ensures { λ r. ⌜
         (r ≡ at + length (listed (map spaced (staleIn (now (tree .entry)) (now (lines .entry))))))
         × (now (out .exit) ≡ putAt at (listed (map spaced (staleIn (now (tree .entry)) (now (lines .entry))))) (now (out .entry)))
         ⌝ }
 {
-    let ordered = baseline::keys_rise(lines);
     let mut last = Key::Nothing;
     let mut place: usize = 0;
     let mut done = at;

@@ -17,45 +17,45 @@ use Rattle.regressions.proofs.measure.Statement.{statement}
 use Rattle.regressions.proofs.measure.Tie as tie
 
 abbrev Inv-loop : tie.InvT-loop
-Inv-loop tree lent n lines limits ordered count₀ bytes₀ k₀ count bytes k =
+Inv-loop tree lent n lines ordered limits count₀ bytes₀ k₀ count bytes k =
     let here = left (limitsOf limits) (entriesOfLines lines) (functionsOf gate tree) k in
     let all = regressions (limitsOf limits) (entriesOfLines lines) (functionsOf gate tree) in
     (k ≤ n) × (count + length here ≡ length all) × (bytes + length (listed here) ≡ length (listed all)) × (count ≤ 2 * k) × (bytes ≤ 80000000 * k)
 
 abbrev μ-loop : tie.MeasureT-loop
-μ-loop tree lent n lines limits ordered count₀ bytes₀ k₀ count bytes k = n - k
+μ-loop tree lent n lines ordered limits count₀ bytes₀ k₀ count bytes k = n - k
 
 loop-holds : tie.Need-loop-holds Inv-loop μ-loop
 loop-holds c = (omega arith, omega arith, omega arith, omega arith, omega arith)
 
 function-at-requires : tie.Need-function-at-requires Inv-loop μ-loop
 function-at-requires c κs =
-    let s = c .before .before .before .before .before .before in (s .pre .0, omega (arith, s .pre .1))
+    let s = c .before .before .before .before .before in (s .pre .0, omega (arith, s .pre .1))
 
 accepted-requires : tie.Need-accepted-requires Inv-loop μ-loop
-accepted-requires c κs = (c .function-at .ensures .1, c .before .before .before .keys-rise .ensures)
+accepted-requires c κs = (c .function-at .ensures .1, c .before .before .before .before .before .before .pre .2)
 
 size-against-requires : tie.Need-size-against-requires Inv-loop μ-loop
 size-against-requires c κs =
-    let s = c .before .before .before .before .before .before .before .before in lies-small (c .before .function-at .ensures .1) (unrefused (now (s .args .tree)) (s .pre .0 .unrefused) .short)
+    let s = c .before .before .before .before .before .before .before in lies-small (c .before .function-at .ensures .1) (unrefused (now (s .args .tree)) (s .pre .0 .unrefused) .short)
 
 add-count : tie.Need-add-count Inv-loop μ-loop
 add-count c =
-    let s = c .before .before .before .before .before .before .before .before .before .before in
+    let s = c .before .before .before .before .before .before .before .before .before in
     let few = s .pre .0 .few in
     let size = c .before .size-against .ensures in
     record { fits = omega (arith, size .1) }
 
 add-bytes : tie.Need-add-bytes Inv-loop μ-loop
 add-bytes c =
-    let s = c .before .before .before .before .before .before .before .before .before .before .before in
+    let s = c .before .before .before .before .before .before .before .before .before .before in
     let few = s .pre .0 .few in
     let size = c .before .before .size-against .ensures in
     record { fits = omega (arith, size .2) }
 
 loop-again : tie.Need-loop-again Inv-loop μ-loop
 loop-again c =
-    let s = c .before .before .before .before .before .before .before .before .before .before .before in
+    let s = c .before .before .before .before .before .before .before .before .before .before in
     let l = c .before .before .before .before .before .before in
     let found = c .before .before .before .before .function-at in
     let size = c .before .before .size-against .ensures in
@@ -78,7 +78,7 @@ loop-again c =
 returns : tie.Need-returns Inv-loop μ-loop
 returns c =
     let l = c .before in
-    let s = c .before .before .before .before .before .before in
+    let s = c .before .before .before .before .before in
     let few = s .pre .0 .few in
     let L = limitsOf (s .args .limits) in
     let es = entriesOfLines (now (s .args .lines)) in
@@ -93,5 +93,5 @@ returns c =
 pub measure-spec : {M : Type 1} → statement M
 measure-spec =
     tie.close
-    (tie.spec Inv-loop μ-loop (λ c κs. search needs) loop-holds function-at-requires accepted-requires size-against-requires add-count add-bytes (λ c. search needs)
+    (tie.spec Inv-loop μ-loop loop-holds function-at-requires accepted-requires size-against-requires add-count add-bytes (λ c. search needs)
     (λ c. search needs) loop-again returns)

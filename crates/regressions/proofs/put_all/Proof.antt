@@ -18,27 +18,27 @@ use Rattle.regressions.proofs.put_all.Statement.{statement}
 use Rattle.regressions.proofs.put_all.Tie as tie
 
 abbrev Inv-loop : tie.InvT-loop
-Inv-loop tree lent n lines limits out₀ at ordered next₀ k₀ out next k =
+Inv-loop tree lent n lines ordered limits out₀ at next₀ k₀ out next k =
     let here = left (limitsOf limits) (entriesOfLines lines) (functionsOf gate tree) k in
     let all = regressions (limitsOf limits) (entriesOfLines lines) (functionsOf gate tree) in
     (k ≤ n) × (length out ≡ length out₀) × (next + length (listed here) ≡ at + length (listed all)) × (putAt next (listed here) out ≡ putAt at (listed all) out₀)
 
 abbrev μ-loop : tie.MeasureT-loop
-μ-loop tree lent n lines limits out₀ at ordered next₀ k₀ out next k = n - k
+μ-loop tree lent n lines ordered limits out₀ at next₀ k₀ out next k = n - k
 
 loop-holds : tie.Need-loop-holds Inv-loop μ-loop
 loop-holds c = (omega arith, refl, refl, refl)
 
 function-at-requires : tie.Need-function-at-requires Inv-loop μ-loop
 function-at-requires c κs =
-    let s = c .before .before .before .before .before .before .before in (s .pre .0, omega (arith, s .pre .1))
+    let s = c .before .before .before .before .before .before in (s .pre .0, omega (arith, s .pre .1))
 
 accepted-requires : tie.Need-accepted-requires Inv-loop μ-loop
-accepted-requires c κs = (c .function-at .ensures .1, c .before .before .before .keys-rise .ensures)
+accepted-requires c κs = (c .function-at .ensures .1, c .before .before .before .before .before .before .before .pre .3)
 
 put-against-requires : tie.Need-put-against-requires Inv-loop μ-loop
 put-against-requires c κs =
-    let s = c .before .before .before .before .before .before .before .before .before .before in
+    let s = c .before .before .before .before .before .before .before .before .before in
     let l = c .before .before .before .before in
     let found = c .before .before .function-at in
     let tree = now (s .args .tree) in
@@ -53,7 +53,7 @@ put-against-requires c κs =
 
 loop-again : tie.Need-loop-again Inv-loop μ-loop
 loop-again c =
-    let s = c .before .before .before .before .before .before .before .before .before .before .before .before .before in
+    let s = c .before .before .before .before .before .before .before .before .before .before .before .before in
     let l = c .before .before .before .before .before .before .before in
     let found = c .before .before .before .before .before .function-at in
     let wrote = c .before .before .put-against .ensures in
@@ -78,7 +78,7 @@ same-length c = c .before .loop .inv .1
 returns : tie.Need-returns Inv-loop μ-loop
 returns c =
     let l = c .before in
-    let s = c .before .before .before .before .before .before .before in
+    let s = c .before .before .before .before .before .before in
     let L = limitsOf (s .args .limits) in
     let es = entriesOfLines (now (s .args .lines)) in
     let fs = functionsOf gate (now (s .args .tree)) in
@@ -91,5 +91,5 @@ returns c =
 pub put-all-spec : {M : Type 1} → statement M
 put-all-spec =
     tie.close
-    (tie.spec Inv-loop μ-loop (λ c κs. search needs) loop-holds function-at-requires accepted-requires put-against-requires (λ c. search needs) (λ c. search needs) loop-again
+    (tie.spec Inv-loop μ-loop loop-holds function-at-requires accepted-requires put-against-requires (λ c. search needs) (λ c. search needs) loop-again
     same-length returns)

@@ -31,14 +31,14 @@ unfolding listed
 loop-holds c = (taken-none _ _ _, refl, λ e. past-start _ _)
 
 step-requires : tie.Need-step-requires Inv-loop μ-loop
-step-requires c κs = (c .before .before .before .before .before .pre .0, c .loop .inv .0 .inside, c .before .keys-rise .ensures, c .loop .inv .2)
+step-requires c κs = (c .before .before .before .before .pre .0, c .loop .inv .0 .inside, c .before .before .before .before .pre .3, c .loop .inv .2)
 
 add-count : tie.Need-add-count Inv-loop μ-loop
 add-count c =
     let nx = c .before in
     let call = nx .before .before in
     let l = call .before in
-    let s = l .before .before .before .before .before in
+    let s = l .before .before .before .before in
     let a = s .args in
     let es = entriesOfLines (now (a .lines)) in
     let fs = functionsOf gate (now (a .tree)) in
@@ -50,7 +50,7 @@ sub-bytes c =
     let nx = c .before in
     let call = nx .before .before in
     let l = call .before in
-    let s = l .before .before .before .before .before in
+    let s = l .before .before .before .before in
     let a = s .args in
     let es = entriesOfLines (now (a .lines)) in
     let fs = functionsOf gate (now (a .tree)) in
@@ -61,7 +61,7 @@ add-bytes c =
     let nx = c .before in
     let call = nx .before .before in
     let l = call .before in
-    let s = l .before .before .before .before .before in
+    let s = l .before .before .before .before in
     let a = s .args in
     let es = entriesOfLines (now (a .lines)) in
     let fs = functionsOf gate (now (a .tree)) in
@@ -73,7 +73,7 @@ add-bytes-2 c =
     let nx = c .before in
     let call = nx .before .before in
     let l = call .before in
-    let s = l .before .before .before .before .before in
+    let s = l .before .before .before .before in
     let a = s .args in
     let es = entriesOfLines (now (a .lines)) in
     let fs = functionsOf gate (now (a .tree)) in
@@ -93,7 +93,7 @@ loop-less c =
     let nx = c .before in
     let call = nx .before .before in
     let l = call .before in
-    let s = l .before .before .before .before .before in
+    let s = l .before .before .before .before in
     let a = s .args in
     let es = entriesOfLines (now (a .lines)) in
     let fs = functionsOf gate (now (a .tree)) in
@@ -104,7 +104,7 @@ loop-again c =
     let nx = c .before in
     let call = nx .before .before in
     let l = call .before in
-    let s = l .before .before .before .before .before in
+    let s = l .before .before .before .before in
     let a = s .args in
     let es = entriesOfLines (now (a .lines)) in
     let fs = functionsOf gate (now (a .tree)) in (
@@ -117,7 +117,7 @@ returns : tie.Need-returns Inv-loop μ-loop
 returns c =
     let call = c .before .before in
     let l = call .before in
-    let s = l .before .before .before .before .before in
+    let s = l .before .before .before .before in
     let a = s .args in
     let p = s .pre in
     let es = entriesOfLines (now (a .lines)) in
@@ -133,4 +133,4 @@ returns c =
 pub measure-spec : {M : Type 1} → statement M
 measure-spec =
     tie.close
-    (tie.spec Inv-loop μ-loop (λ c κs. search needs) loop-holds step-requires (λ c. search needs) add-count sub-bytes add-bytes add-bytes-2 loop-less loop-again (λ c. search needs) returns)
+    (tie.spec Inv-loop μ-loop loop-holds step-requires (λ c. search needs) add-count sub-bytes add-bytes add-bytes-2 loop-less loop-again (λ c. search needs) returns)

@@ -24,7 +24,7 @@ use Rattle.stale.proofs.put_all.Statement.{statement}
 use Rattle.stale.proofs.put_all.Tie as tie
 
 abbrev Inv-loop : tie.InvT-loop
-Inv-loop tree lent n lines count out₀ at ordered last₀ place₀ done₀ k₀ out last place done k =
+Inv-loop tree lent n lines ordered count out₀ at last₀ place₀ done₀ k₀ out last place done k =
     TakenTo (entriesOfLines lines) (functionsOf gate tree) lines last k
     × (done ≡ at + length (keyLines (take k (staleIn tree lines))))
     × (out ≡ putAt at (keyLines (take k (staleIn tree lines))) out₀)
@@ -32,23 +32,24 @@ Inv-loop tree lent n lines count out₀ at ordered last₀ place₀ done₀ k₀
     × (ordered ≡ true → Past lines (keyIn lines last) place)
 
 abbrev μ-loop : tie.MeasureT-loop
-μ-loop tree lent n lines count out₀ at ordered last₀ place₀ done₀ k₀ out last place done k = count - k
+μ-loop tree lent n lines ordered count out₀ at last₀ place₀ done₀ k₀ out last place done k = count - k
 
 loop-holds : tie.Need-loop-holds Inv-loop μ-loop
 unfolding listed
-loop-holds c = let a = c .before .before .before .before .before .args in (taken-none _ _ _, omega arith, sym (put-none (a .at) (now (a .out))), refl, λ e. past-start _ _)
+loop-holds c = let a = c .before .before .before .before .args in (taken-none _ _ _, omega arith, sym (put-none (a .at) (now (a .out))), refl, λ e. past-start _ _)
 
 step-requires : tie.Need-step-requires Inv-loop μ-loop
 step-requires c κs =
     let l = c .before in
-    (l .before .before .before .before .before .before .pre .0, l .loop .inv .0 .inside, l .before .keys-rise .ensures, l .loop .inv .4)
+    let p = l .before .before .before .before .before .pre in
+    (p .0, l .loop .inv .0 .inside, p .3, l .loop .inv .4)
 
 sub-put-key : tie.Need-sub-put-key Inv-loop μ-loop
 sub-put-key c =
     let nx = c .before .before in
     let call = nx .before .before in
     let l = call .before .before in
-    let s = l .before .before .before .before .before .before in
+    let s = l .before .before .before .before .before in
     let a = s .args in
     let es = entriesOfLines (now (a .lines)) in
     let fs = functionsOf gate (now (a .tree)) in
@@ -59,7 +60,7 @@ part-put-key-start c =
     let nx = c .before .before in
     let call = nx .before .before in
     let l = call .before .before in
-    let s = l .before .before .before .before .before .before in
+    let s = l .before .before .before .before .before in
     let a = s .args in
     let es = entriesOfLines (now (a .lines)) in
     let fs = functionsOf gate (now (a .tree)) in
@@ -71,7 +72,7 @@ part-put-key-end c =
     let nx = c .before .before in
     let call = nx .before .before in
     let l = call .before .before in
-    let s = l .before .before .before .before .before .before in
+    let s = l .before .before .before .before .before in
     let a = s .args in
     let es = entriesOfLines (now (a .lines)) in
     let fs = functionsOf gate (now (a .tree)) in
@@ -83,7 +84,7 @@ put-key-requires c κs =
     let nx = c .before .before .before in
     let call = nx .before .before in
     let l = call .before .before in
-    let s = l .before .before .before .before .before .before in
+    let s = l .before .before .before .before .before in
     let a = s .args in
     let es = entriesOfLines (now (a .lines)) in
     let fs = functionsOf gate (now (a .tree)) in
@@ -95,7 +96,7 @@ loop-again c =
     let nx = put .before .before .before .before in
     let call = nx .before .before in
     let l = call .before .before in
-    let s = l .before .before .before .before .before .before in
+    let s = l .before .before .before .before .before in
     let a = s .args in
     let es = entriesOfLines (now (a .lines)) in
     let fs = functionsOf gate (now (a .tree)) in
@@ -115,7 +116,7 @@ returns : tie.Need-returns Inv-loop μ-loop
 returns c =
     let call = c .before .before in
     let l = call .before .before in
-    let s = l .before .before .before .before .before .before in
+    let s = l .before .before .before .before .before in
     let a = s .args in
     let es = entriesOfLines (now (a .lines)) in
     let fs = functionsOf gate (now (a .tree)) in
@@ -125,7 +126,7 @@ returns c =
 returns-2 : tie.Need-returns-2 Inv-loop μ-loop
 returns-2 c =
     let l = c .before in
-    let s = l .before .before .before .before .before .before in
+    let s = l .before .before .before .before .before in
     let a = s .args in
     let keys = staleIn (now (a .tree)) (now (a .lines)) in
     let all = take-all (l .loop .k) keys (omega (arith, s .pre .1)) in
@@ -134,5 +135,5 @@ returns-2 c =
 pub put-all-spec : {M : Type 1} → statement M
 put-all-spec =
     tie.close
-    (tie.spec Inv-loop μ-loop (λ c κs. search needs) loop-holds step-requires (λ c. search needs) sub-put-key part-put-key-start part-put-key-end put-key-requires (λ c. search needs)
+    (tie.spec Inv-loop μ-loop loop-holds step-requires (λ c. search needs) sub-put-key part-put-key-start part-put-key-end put-key-requires (λ c. search needs)
     (λ c. search needs) loop-again (λ c. search needs) (λ c. search needs) returns (λ c. search needs) returns-2)
