@@ -12,10 +12,10 @@ use Rattle.gate_rules.specs.Baseline.{entriesOfLines, entryOf}
 use Rattle.gate_rules.specs.Functions.{Fun, key}
 use Rattle.baseline.specs.declared.Key.{Key}
 use Rattle.baseline.specs.declared.Key.the-variants.{Bytes, Nothing}
-use Rattle.baseline.specs.Ordered.{Unfalling, cut-next, keys-next, keysIn, oneKey}
+use Rattle.baseline.specs.Ordered.{Unfalling, cut-next, fallen, keys-next, keysIn, oneKey}
 use Rattle.baseline.specs.Reads.{keyIn, keyOfEntry, lineAt}
 use Rattle.order.specs.Best.{Best, best-unfit}
-use Rattle.stale.specs.InOrder.{Past, first-best, fits, fits-fit, none-behind-it, none-fit, unfit}
+use Rattle.stale.specs.InOrder.{NoneAhead, Past, ahead-first, ahead-rest, first-best, fits, fits-fit, none-ahead-of-it, none-behind-it, none-fit, unfit}
 use Rattle.stale.specs.Taken.{Fit, next-found, nextStale}
 use Rattle.stale.proofs.Lines.{Upto}
 
@@ -55,6 +55,19 @@ module _ (fs : List Fun) (last : Option (List ℕ)) (s : List ℕ) where
             passed = u .seen ++ k ∷ [];
             cut = cut-next s from end (u .seen) (some k) (u .cut) line;
             none-behind = none-behind-it (map key fs) last (u .seen) k rest up;
+            none-ahead = none-ahead-of-it (map key fs) last (u .seen) k rest up;
           },
         )
     turn-found Nothing q rise f = absurd (true-false false f refl)
+
+-- the key of a line and the lines behind it, where none stands before the last one taken
+module _ (last : Option (List ℕ)) (s : List ℕ) (from end to : ℕ) (e : end ≡ from + bytesBefore 10 (drop from s)) (p : part from to s ≡ lineAt s from end) (here : Key)
+    (q : keyIn s here ≡ keyOfEntry (entryOf (part from to s))) (h : NoneAhead last (keysIn (drop from s))) where
+  line : NoneAhead last (oneKey (keyIn s here) ++ keysIn (drop (end + 1) s))
+  line = subst (NoneAhead last) (keys-next s from end to (keyIn s here) e p q) h
+
+  pub turn-ahead : fallen last (keyIn s here) ≡ false
+  turn-ahead = ahead-first last (keyIn s here) (keysIn (drop (end + 1) s)) line
+
+  pub turn-rest : NoneAhead last (keysIn (drop (end + 1) s))
+  turn-rest = ahead-rest last (keyIn s here) (keysIn (drop (end + 1) s)) line

@@ -7,9 +7,9 @@ use mathlib.Core.List.{List, [], _∷_, _++_, append-assoc, List·Memᴰ·head, 
 use mathlib.Core.Option.{Option, none, some}
 use lib.ListN.{drop}
 use Rattle.text_rules.specs.ByteOrder.{before-orders, before-total}
-use Rattle.text_rules.specs.Bytes.{All, _∈_, among, before}
-use Rattle.text_rules.specs.BytesLaws.{All-append, All-map, and-left, and-right, true-false, whether}
-use Rattle.baseline.specs.Ordered.{Unfalling, keysIn, unfalling-front, unfalling-rest}
+use Rattle.text_rules.specs.Bytes.{All, _∈_, among, before, same}
+use Rattle.text_rules.specs.BytesLaws.{All-append, All-map, and-left, and-right, same-refl, same-true, true-false, whether}
+use Rattle.baseline.specs.Ordered.{Unfalling, fallen, keysIn, oneKey, unfalling-front, unfalling-rest}
 use Rattle.order.specs.Best.{Best}
 use Rattle.stale.specs.Taken.{Fit, behind}
 
@@ -18,15 +18,54 @@ abbrev pub fits : (live : List (List ℕ)) → Option (List ℕ) → Option (Lis
 fits live last none = false
 fits live last (some k) = behind last k && not (among k live)
 
--- no key in front of a place is behind the last one taken
+-- the key is the last one taken
+abbrev pub repeats : Option (List ℕ) → List ℕ → Bool
+repeats none k = false
+repeats (some l) k = same l k
+
+-- none of the keys stands before the last one taken
+abbrev pub NoneAhead : Option (List ℕ) → List (List ℕ) → Type 0
+NoneAhead none ks = Unit {0}
+NoneAhead (some l) ks = All (λ k. before k l ≡ false) ks
+
+-- no key in front of a place is behind the last one taken, and none from there on stands before it
 pub record Past (s : List ℕ) (last : Option (List ℕ)) (place : ℕ) : Type 0 where
   pub passed : List (List ℕ)
   pub cut : keysIn s ≡ passed ++ keysIn (drop place s)
   pub none-behind : All (λ k. behind last k ≡ false) passed
+  pub none-ahead : NoneAhead last (keysIn (drop place s))
 
--- at the start there is no key in front
-pub past-start : (s : List ℕ) (last : Option (List ℕ)) → Past s last 0
-past-start s last = record { passed = []; cut = refl; none-behind = tt }
+-- at the start there is no key in front, and none was taken
+pub past-start : (s : List ℕ) → Past s none 0
+past-start s = record { passed = []; cut = refl; none-behind = tt; none-ahead = tt }
+
+-- the key of a line, and those of the lines behind it
+pub ahead-first : (last k : Option (List ℕ)) (ks : List (List ℕ)) → NoneAhead last (oneKey k ++ ks) → fallen last k ≡ false
+ahead-first none none ks h = refl
+ahead-first none (some k) ks h = refl
+ahead-first (some l) none ks h = refl
+ahead-first (some l) (some k) ks h = h .0
+
+pub ahead-rest : (last k : Option (List ℕ)) (ks : List (List ℕ)) → NoneAhead last (oneKey k ++ ks) → NoneAhead last ks
+ahead-rest none k ks h = tt
+ahead-rest (some l) none ks h = h
+ahead-rest (some l) (some k) ks h = h .1
+
+-- a key that does not stand before the last one is behind it where it is another
+irreflexive : (k : List ℕ) → before k k ≡ false
+irreflexive k = elim (whether (before k k)) [ inl e ↦ absurd (before-orders .asym k k e e) | inr e ↦ e ]
+
+pub repeat-not : (last : Option (List ℕ)) (k : List ℕ) → repeats last k ≡ true → behind last k ≡ false
+repeat-not none k e = absurd (true-false false e refl)
+repeat-not (some l) k e = ap (before l) (sym (same-true l k e)) ∙ irreflexive l
+
+pub other-behind : (last : Option (List ℕ)) (k : List ℕ) → fallen last (some k) ≡ false → repeats last k ≡ false → behind last k ≡ true
+other-behind none k h e = refl
+other-behind (some l) k h e =
+    elim (whether (before l k)) [
+      | inl d ↦ d
+      | inr d ↦ absurd (true-false (same l k) (ap (same l) (sym (before-total l k d h)) ∙ same-refl l) e)
+    ]
 
 not-live : (b : Bool) → not b ≡ true → b ≡ false
 not-live true e = sym e
@@ -64,8 +103,8 @@ module _ (live : List (List ℕ)) (last : Option (List ℕ)) (ks : List (List �
     All-append _ ks (k ∷ js) (All-map _ _ (λ j no g. absurd (no g)) ks n) ((λ g. inl refl), All-map _ _ (λ j e g. behind-it j e) js (unfalling-rest ks (k ∷ js) u .0)),
   )
 
-  irreflexive : before k k ≡ false
-  irreflexive = elim (whether (before k k)) [ inl e ↦ absurd (before-orders .asym k k e e) | inr e ↦ e ]
-
   pub none-behind-it : All (λ j. behind (some k) j ≡ false) (ks ++ k ∷ [])
-  none-behind-it = All-append _ ks (k ∷ []) (unfalling-front ks k js u) (irreflexive, tt)
+  none-behind-it = All-append _ ks (k ∷ []) (unfalling-front ks k js u) (irreflexive k, tt)
+
+  pub none-ahead-of-it : NoneAhead (some k) js
+  none-ahead-of-it = unfalling-rest ks (k ∷ js) u .0

@@ -3,7 +3,7 @@
 ghost use mathlib.Core.Path.{_≡_};
 ghost use mathlib.Core.List.{List, [], _∷_, _++_, map};
 ghost use Prim.Native.Nat.{ℕ, _+_, _≤_};
-ghost use mathlib.Core.Bool.{true};
+ghost use mathlib.Core.Bool.{true, false};
 ghost use lib.ListN.{length};
 ghost use Rattle.text_rules.specs.Bytes.{among, before, putAt};
 ghost use Rattle.text_rules.specs.Search.{part};
@@ -14,10 +14,10 @@ ghost use Rattle.gate_rules.specs.Functions.{key};
 ghost use Rattle.gate_rules.specs.Gate.{gate};
 ghost use Rattle.gate_rules.specs.Scan.{functionsOf};
 ghost use Rattle.functions.specs.Shown.{Lies, Stand, shown};
-ghost use Rattle.baseline.specs.Ordered.{Unfalling, keysIn};
+ghost use Rattle.baseline.specs.Ordered.{Unfalling, fallen, keysIn};
 ghost use Rattle.baseline.specs.Reads.{KeyInside, keyIn};
 ghost use Rattle.order.specs.Best.{Best};
-ghost use Rattle.stale.specs.InOrder.{Past, fits};
+ghost use Rattle.stale.specs.InOrder.{Past, fits, repeats};
 ghost use Rattle.stale.specs.Taken.{Fit, AllStand, ahead, behind, keyList, nextStale, staleIn};
 use baseline::Key;
 use functions::Function;
@@ -152,14 +152,30 @@ pub fn next_stale(tree: &[u8], lent: &[u8], n: usize, lines: &[u8], last: Key) -
     best
 }
 
-// Whether the key of a line is stale and behind the last one that was taken. Whether a function has it is asked last, as that costs most.
+// Whether a key is the last one that was taken.
+fn is_last(lines: &[u8], last: Key, from: usize, to: usize) -> bool
+    requires { ⌜ KeyInside (now lines) last × (from ≤ to) × (to ≤ length (now lines)) ⌝ }
+    ensures { λ r. ⌜ r ≡ repeats (keyIn (now (lines .entry)) last) (part from to (now (lines .entry))) ⌝ }
+{
+    match last {
+        Key::Bytes(a, b) => order::same_bytes(&lines[a..b], &lines[from..to]),
+        Key::Nothing => false,
+    }
+}
+
+// Whether the key of a line is stale and behind the last one that was taken, which it does not stand before: then it is behind where it is another.
 fn is_next(tree: &[u8], lent: &[u8], n: usize, lines: &[u8], last: Key, here: Key) -> bool
-    requires { ⌜ AllStand (now tree) (now lent) n × KeyInside (now lines) last × KeyInside (now lines) here ⌝ }
+    requires { ⌜
+        AllStand (now tree) (now lent) n
+        × KeyInside (now lines) last
+        × KeyInside (now lines) here
+        × (fallen (keyIn (now lines) last) (keyIn (now lines) here) ≡ false)
+        ⌝ }
     ensures { λ r. ⌜ r ≡ fits (map key (functionsOf gate (now (tree .entry)))) (keyIn (now (lines .entry)) last) (keyIn (now (lines .entry)) here) ⌝ }
 {
     match here {
         Key::Bytes(from, to) => {
-            if !is_behind(lines, last, from, to) {
+            if is_last(lines, last, from, to) {
                 return false;
             }
             !is_live(tree, lent, n, &lines[from..to])
@@ -174,7 +190,7 @@ pub struct Next {
     pub place: usize,
 }
 
-// The first stale key behind the last one, where keys never fall. No key in front of the place is behind the last one.
+// The first stale key behind the last one, where keys never fall. No key in front of the place is behind the last one, and none from there on before it.
 fn next_in_order(tree: &[u8], lent: &[u8], n: usize, lines: &[u8], last: Key, place: usize) -> Next
     requires { ⌜
         AllStand (now tree) (now lent) n

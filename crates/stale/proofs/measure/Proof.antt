@@ -28,7 +28,7 @@ abbrev μ-loop : tie.MeasureT-loop
 
 loop-holds : tie.Need-loop-holds Inv-loop μ-loop
 unfolding listed
-loop-holds c = (taken-none _ _ _, refl, λ e. past-start _ _)
+loop-holds c = (taken-none _ _ _, refl, λ e. past-start _)
 
 step-requires : tie.Need-step-requires Inv-loop μ-loop
 step-requires c κs = (c .before .before .before .before .pre .0, c .loop .inv .0 .inside, c .before .before .before .before .pre .3, c .loop .inv .2)

@@ -36,7 +36,7 @@ abbrev μ-loop : tie.MeasureT-loop
 
 loop-holds : tie.Need-loop-holds Inv-loop μ-loop
 unfolding listed
-loop-holds c = let a = c .before .before .before .before .args in (taken-none _ _ _, omega arith, sym (put-none (a .at) (now (a .out))), refl, λ e. past-start _ _)
+loop-holds c = let a = c .before .before .before .before .args in (taken-none _ _ _, omega arith, sym (put-none (a .at) (now (a .out))), refl, λ e. past-start _)
 
 step-requires : tie.Need-step-requires Inv-loop μ-loop
 step-requires c κs =
