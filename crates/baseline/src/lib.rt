@@ -359,7 +359,7 @@ fn key_before(key: &[u8], path: &[u8], name: &[u8]) -> bool
     if key[n] < TAB {
         return true;
     }
-    if key[n] != TAB {
+    if key[n] > TAB {
         return false;
     }
     order::before(&key[n + 1..], name)
@@ -479,8 +479,8 @@ fn lookup_from(baseline: &[u8], path: &[u8], name: &[u8], place: usize) -> Accep
         if is_beyond(baseline, key_at(baseline, from, to), path, name) {
             return found;
         }
-        let here = in_line(&baseline[from..to], path, name);
-        found = later(found, here);
+        let line = in_line(&baseline[from..to], path, name);
+        found = later(found, line);
         from = end + 1;
     }
     found

@@ -58,12 +58,13 @@ returns-5 c =
     let call = two .before in
     let a = call .before .before .before .before .before .before .args in
     sym (tab-above (a .key .now) (a .path .now) (a .name .now) (omega arith) (sym (call .before3 .ensures) ∙ two .if2 .left)
-    (sym (eq .same-bytes .ensures) ∙ not-false _ (three .if3 .left)) (four .if4 .left) (c .if5 .taken))
+    (sym (eq .same-bytes .ensures) ∙ not-false _ (three .if3 .left)) (four .if4 .left) (λ e. omega (arith, e, c .if5 .taken)))
 
 returns-6 : tie.Need-returns-6
 returns-6 c =
     let five = c .before .before in
-    let three = five .before .before .before .before in
+    let four = five .before .before in
+    let three = four .before .before in
     let eq = three .before in
     let two = eq .before .before in
     let call = two .before in
@@ -73,7 +74,7 @@ returns-6 c =
     c .before4 .ensures
     ∙ ap (λ s. before s (a .name .now)) (rest-part key (length path + 1))
     ∙ sym (name-before key path (a .name .now) (omega arith) (sym (call .before3 .ensures) ∙ two .if2 .left)
-    (sym (eq .same-bytes .ensures) ∙ not-false _ (three .if3 .left)) (five .if5 .left))
+    (sym (eq .same-bytes .ensures) ∙ not-false _ (three .if3 .left)) (omega (arith, four .if4 .left, five .if5 .left)))
 
 pub key-before-spec : {M : Type 1} → statement M
 key-before-spec =
