@@ -1,2 +1,3 @@
 pub mod Taken
 pub mod InOrder
+pub mod Live

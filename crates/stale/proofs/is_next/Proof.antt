@@ -53,14 +53,15 @@ part-is-live-end c =
 
 returns-2 : tie.Need-returns-2
 returns-2 c =
-    let no = c .before .before in
+    let asked = c .before in
+    let no = asked .before .before in
     let b = no .before in
     let h = b .before .before in
     let s = h .before .before .before .before .before in
     let a = s .args in
     let lines = now (a .lines) in
     let live = map key (functionsOf gate (now (a .tree))) in
-    ap not (c .is-live .ensures)
+    ap not (asked .is-live .ensures)
     ∙ fits-rest live (keyIn lines (a .last)) _ (other-behind (keyIn lines (a .last)) _ (sym (ap (λ k. fallen (keyIn lines (a .last)) (keyIn lines k)) (h .here .given .1)) ∙ s .pre .3) (sym (b .is-last .ensures) ∙ no .if1 .left))
     ∙ sym (ap (λ k. fits live (keyIn lines (a .last)) (keyIn lines k)) (h .here .given .1))
 
