@@ -38,12 +38,20 @@ and-false : (a : Bool) → (a && false) ≡ false
 and-false true = refl
 and-false false = refl
 
+and-true : (a : Bool) → (a && true) ≡ a
+and-true true = refl
+and-true false = refl
+
 module _ (s p n : List ℕ) (h : length p < length s) where
   pub key-tab : (getD s (length p) 0 ≡ 9 → ⊥) → same s (p ++ 9 ∷ n) ≡ false
   key-tab e = key-parts s p n h ∙ rw (ne-eqb (getD s (length p) 0) 9 e) (and-false (same (take (length p) s) p))
 
-  pub key-path : same (take (length p) s) p ≡ false → same s (p ++ 9 ∷ n) ≡ false
-  key-path e = key-parts s p n h ∙ rw e
+  pub key-other : same (drop (length p + 1) s) n ≡ false → same s (p ++ 9 ∷ n) ≡ false
+  key-other e =
+      let f = rw (add-one (length p)) at e in
+      key-parts s p n h ∙ rw f (ap (λ b. same (take (length p) s) p && b) (and-false (eqb (getD s (length p) 0) 9)) ∙ and-false (same (take (length p) s) p))
 
-  pub key-name : getD s (length p) 0 ≡ 9 → same (take (length p) s) p ≡ true → same s (p ++ 9 ∷ n) ≡ same (drop (length p + 1) s) n
-  key-name e f = key-parts s p n h ∙ rw (f, eq-eqb (getD s (length p) 0) 9 e, add-one (length p))
+  pub key-path : getD s (length p) 0 ≡ 9 → same (drop (length p + 1) s) n ≡ true → same s (p ++ 9 ∷ n) ≡ same (take (length p) s) p
+  key-path e d =
+      let f = rw (add-one (length p)) at d in
+      key-parts s p n h ∙ rw (eq-eqb (getD s (length p) 0) 9 e, f) (and-true (same (take (length p) s) p))

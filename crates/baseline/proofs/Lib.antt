@@ -1,5 +1,8 @@
 -- The laws that the functions cite.
 mod Fields
 mod Finds
+mod Halving
+mod KeyOrder
 mod Keys
 mod Numbers
+mod Rise

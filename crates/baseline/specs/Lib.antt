@@ -1,2 +1,4 @@
 pub mod Reads
 pub mod Steps
+pub mod Ordered
+pub mod Halves

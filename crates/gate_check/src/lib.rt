@@ -16,6 +16,7 @@ ghost use Rattle.gate_rules.specs.Gate.{gate};
 ghost use Rattle.gate_rules.specs.Scan.{functionsOf};
 ghost use Rattle.gate_rules.specs.Tree.{treeRefusal};
 ghost use Rattle.functions.specs.Shown.{limitsOf};
+ghost use Rattle.baseline.specs.Ordered.{Unfalling, keysIn};
 ghost use Rattle.stale.specs.Taken.{AllStand, staleIn};
 ghost use Rattle.gate_check.specs.Checks.{Checks, Refuses, Tells};
 ghost use Rattle.gate_check.specs.Texts.{someStale, staleLength, verdictLength, worseIn};
@@ -65,6 +66,7 @@ fn put_stale_text(
     lent: &[u8],
     n: usize,
     lines: &[u8],
+    ordered: bool,
     count: usize,
     output: &mut [u8],
     at: usize,
@@ -74,6 +76,7 @@ fn put_stale_text(
         × (count ≡ length (staleIn (now tree) (now lines)))
         × (1 ≤ count)
         × (at + someStale count (length (listed (map spaced (staleIn (now tree) (now lines))))) ≤ length (now output))
+        × (ordered ≡ true → Unfalling (keysIn (now lines)))
         ⌝ }
     ensures { λ r. ⌜
         (r ≡ at + someStale count (length (listed (map spaced (staleIn (now (tree .entry)) (now (lines .entry)))))))
@@ -82,7 +85,7 @@ fn put_stale_text(
 {
     let words = listing::put_number(output, at, count as u64);
     let keys = listing::put_text(output, words, b" baseline entries no longer exist:\n");
-    let end = stale::put_all(tree, lent, n, lines, count, output, keys);
+    let end = stale::put_all(tree, lent, n, lines, ordered, count, output, keys);
     listing::put_text(output, end, b"run --update to drop them\n")
 }
 
@@ -92,6 +95,7 @@ fn put_stale(
     lent: &[u8],
     n: usize,
     lines: &[u8],
+    ordered: bool,
     count: usize,
     output: &mut [u8],
     at: usize,
@@ -100,6 +104,7 @@ fn put_stale(
         AllStand (now tree) (now lent) n
         × (count ≡ length (staleIn (now tree) (now lines)))
         × (at + length (staleText (staleIn (now tree) (now lines))) ≤ length (now output))
+        × (ordered ≡ true → Unfalling (keysIn (now lines)))
         ⌝ }
     ensures { λ r. ⌜
         (r ≡ at + length (staleText (staleIn (now (tree .entry)) (now (lines .entry)))))
@@ -109,7 +114,7 @@ fn put_stale(
     if count == 0 {
         return at;
     }
-    put_stale_text(tree, lent, n, lines, count, output, at)
+    put_stale_text(tree, lent, n, lines, ordered, count, output, at)
 }
 
 // ---- the verdict
@@ -132,6 +137,7 @@ fn put_verdict(
     lent: &[u8],
     n: usize,
     lines: &[u8],
+    ordered: bool,
     count: usize,
     output: &mut [u8],
     at: usize,
@@ -140,6 +146,7 @@ fn put_verdict(
         AllStand (now tree) (now lent) n
         × (count ≡ length (worseIn (limitsOf limits) (now tree) (now lines)))
         × (at + length (verdictText (worseIn (limitsOf limits) (now tree) (now lines))) ≤ length (now output))
+        × (ordered ≡ true → Unfalling (keysIn (now lines)))
         ⌝ }
     ensures { λ r. ⌜
         (r ≡ at + length (verdictText (worseIn (limitsOf limits) (now (tree .entry)) (now (lines .entry)))))
@@ -154,7 +161,7 @@ fn put_verdict(
         );
     }
     let first = listing::put_counted(output, at, count as u64);
-    regressions::put_all(tree, lent, n, lines, limits, output, first)
+    regressions::put_all(tree, lent, n, lines, ordered, limits, output, first)
 }
 
 // ---- the call
@@ -173,14 +180,25 @@ fn told(
         Tells r (limitsOf limits) (entriesOfLines (now (lines .entry))) (functionsOf gate (now (tree .entry))) (now (output .entry)) (now (output .exit))
         ⌝ }
 {
-    let gone = stale::measure(tree, lent, n, lines);
-    let worse = regressions::measure(tree, lent, n, lines, limits);
+    let ordered = baseline::keys_rise(lines);
+    let gone = stale::measure(tree, lent, n, lines, ordered);
+    let worse = regressions::measure(tree, lent, n, lines, ordered, limits);
     let bytes = stale_length(gone.count, gone.bytes) + verdict_length(worse.count, worse.bytes);
     if output.len() < bytes {
         return refusal(9);
     }
-    let next = put_stale(tree, lent, n, lines, gone.count, output, 0);
-    let end = put_verdict(limits, tree, lent, n, lines, worse.count, output, next);
+    let next = put_stale(tree, lent, n, lines, ordered, gone.count, output, 0);
+    let end = put_verdict(
+        limits,
+        tree,
+        lent,
+        n,
+        lines,
+        ordered,
+        worse.count,
+        output,
+        next,
+    );
     CheckAnswer {
         number: 0,
         written: end as u32,

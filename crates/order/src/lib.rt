@@ -2,19 +2,19 @@
 ghost use mathlib.Core.Path.{_≡_};
 ghost use Rattle.text_rules.specs.Bytes.{before, same};
 
-// Whether two texts are the same.
+// Whether two texts are the same. The last bytes are compared first: paths and names often begin alike.
 pub fn same_bytes(s: &[u8], t: &[u8]) -> bool
     ensures { λ r. ⌜ r ≡ same (now (s .entry)) (now (t .entry)) ⌝ }
 {
     if s.len() != t.len() {
         return false;
     }
-    let mut i = 0;
-    while i < s.len() {
+    let mut i = s.len();
+    while 0 < i {
+        i -= 1;
         if s[i] != t[i] {
             return false;
         }
-        i += 1;
     }
     true
 }

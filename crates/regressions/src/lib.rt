@@ -1,6 +1,7 @@
 // The regression lines of check: each function of a scanned tree against what the baseline accepts of it. The lines are measured first, so that a caller
 // knows how many bytes they take before any of them is written.
 ghost use mathlib.Core.Path.{_≡_};
+ghost use mathlib.Core.Bool.{true};
 ghost use mathlib.Core.List.{List};
 ghost use Prim.Native.Nat.{ℕ, _+_, _≤_};
 ghost use lib.Dec.{ltb};
@@ -12,6 +13,7 @@ ghost use Rattle.gate_rules.specs.Functions.{key};
 ghost use Rattle.gate_rules.specs.Gate.{gate};
 ghost use Rattle.gate_rules.specs.Scan.{functionsOf};
 ghost use Rattle.functions.specs.Shown.{Lies, Stand, limitsOf, shown};
+ghost use Rattle.baseline.specs.Ordered.{Unfalling, keysIn};
 ghost use Rattle.baseline.specs.Reads.{acceptedBy};
 ghost use Rattle.regressions.specs.Lines.{Measured, Small, Written, accepts, branchesLength, branchesOf, entryOf, grownOf, linesLength, linesOf, newLength, newOf, pair, pairLength, startLength, started, told};
 use baseline::Accepted;
@@ -240,15 +242,18 @@ fn put_new(tree: &[u8], f: Function, limits: Limits, out: &mut [u8], at: usize) 
 
 // ---- one function
 
-// What the baseline accepts of a function.
-fn accepted(tree: &[u8], f: Function, lines: &[u8]) -> Accepted
-    requires { ⌜ Lies (now tree) f ⌝ }
+// What the baseline accepts of a function. Where its keys never fall, they are not all read.
+fn accepted(tree: &[u8], f: Function, lines: &[u8], ordered: bool) -> Accepted
+    requires { ⌜ Lies (now tree) f × (ordered ≡ true → Unfalling (keysIn (now lines))) ⌝ }
     ensures { λ r. ⌜ r ≡ acceptedBy (lookup (key (shown (now (tree .entry)) f)) (entriesOfLines (now (lines .entry)))) ⌝ }
 {
     let from = f.path_at;
     let to = f.path_end;
     let start = f.name_at;
     let end = f.name_end;
+    if ordered {
+        return baseline::lookup_ordered(lines, &tree[from..to], &tree[start..end]);
+    }
     baseline::lookup(lines, &tree[from..to], &tree[start..end])
 }
 
@@ -314,8 +319,15 @@ fn put_against(
 // ---- all functions
 
 // How many regression lines there are, and the bytes of all of them as they are listed.
-pub fn measure(tree: &[u8], lent: &[u8], n: usize, lines: &[u8], limits: Limits) -> Size
-    requires { ⌜ Stand (now tree) (now lent) × (n ≡ length (functionsOf gate (now tree))) ⌝ }
+pub fn measure(
+    tree: &[u8],
+    lent: &[u8],
+    n: usize,
+    lines: &[u8],
+    ordered: bool,
+    limits: Limits,
+) -> Size
+    requires { ⌜ Stand (now tree) (now lent) × (n ≡ length (functionsOf gate (now tree))) × (ordered ≡ true → Unfalling (keysIn (now lines))) ⌝ }
     ensures { λ r. ⌜
         (r .count ≡ length (regressions (limitsOf limits) (entriesOfLines (now (lines .entry))) (functionsOf gate (now (tree .entry)))))
         × (r .bytes ≡ length (listed (regressions (limitsOf limits) (entriesOfLines (now (lines .entry))) (functionsOf gate (now (tree .entry))))))
@@ -328,7 +340,7 @@ pub fn measure(tree: &[u8], lent: &[u8], n: usize, lines: &[u8], limits: Limits)
     let mut k = 0;
     while k < n {
         let f = functions::function_at(tree, lent, k);
-        let size = size_against(f, accepted(tree, f, lines), limits);
+        let size = size_against(f, accepted(tree, f, lines, ordered), limits);
         count += size.count;
         bytes += size.bytes;
         k += 1;
@@ -342,6 +354,7 @@ pub fn put_all(
     lent: &[u8],
     n: usize,
     lines: &[u8],
+    ordered: bool,
     limits: Limits,
     out: &mut [u8],
     at: usize,
@@ -350,6 +363,7 @@ pub fn put_all(
         Stand (now tree) (now lent)
         × (n ≡ length (functionsOf gate (now tree)))
         × (at + length (listed (regressions (limitsOf limits) (entriesOfLines (now lines)) (functionsOf gate (now tree)))) ≤ length (now out))
+        × (ordered ≡ true → Unfalling (keysIn (now lines)))
         ⌝ }
     ensures { λ r. ⌜
         (r ≡ at + length (listed (regressions (limitsOf limits) (entriesOfLines (now (lines .entry))) (functionsOf gate (now (tree .entry))))))
@@ -360,7 +374,14 @@ pub fn put_all(
     let mut k = 0;
     while k < n {
         let f = functions::function_at(tree, lent, k);
-        next = put_against(tree, f, accepted(tree, f, lines), limits, out, next);
+        next = put_against(
+            tree,
+            f,
+            accepted(tree, f, lines, ordered),
+            limits,
+            out,
+            next,
+        );
         k += 1;
     }
     next

@@ -3,3 +3,4 @@ mod Live
 mod OneMore
 mod Lines
 mod Taking
+mod InTurn

@@ -1,16 +1,18 @@
 -- Whether a key is among those of the functions, function by function.
-use Prim.Native.Nat.{ℕ, _+_, _≤_, _<_}
+use Prim.Native.Nat.{ℕ, zero, suc, _+_, _≤_, _<_}
 use mathlib.Core.Path.{_≡_, refl, ap, sym, _∙_}
 use mathlib.Core.Logic.{inl, inr}
-use mathlib.Core.Bool.{Bool, true, false, _||_}
+use mathlib.Core.Bool.{Bool, true, false, _||_, or-true}
 use mathlib.Core.List.{List, [], _∷_, map}
 use native.Mathlib.Numerals.{add-one}
+use native.Mathlib.Omega.{arith}
 use lib.ListN.{length, drop, getD, drop-of-length-le}
 use lib.Seq.{drop-cons}
 use Rattle.text_rules.specs.Bytes.{among, same}
 use Rattle.text_rules.specs.BytesLaws.{same-refl, same-true, true-false, whether}
 use Rattle.gate_rules.specs.Functions.{Fun, key}
 use Rattle.functions.specs.Shown.{noFun}
+use Rattle.stale.specs.Live.{liveFrom}
 
 pub same-sym : (s t : List ℕ) → same s t ≡ same t s
 same-sym s t =
@@ -32,18 +34,23 @@ one-live k j r e = e ∙ same-sym k j ∙ or-false (same j k)
 
 -- the functions from a number on
 module _ (k : List ℕ) (fs : List Fun) (i : ℕ) where
-  abbrev pub liveFrom : Bool
-  liveFrom = among k (map key (drop i fs))
-
-  pub live-end : length fs ≤ i → liveFrom ≡ false
+  pub live-end : length fs ≤ i → liveFrom k fs i ≡ false
   live-end h = ap (λ gs. among k (map key gs)) (drop-of-length-le fs h)
 
   module _ (h : i < length fs) where
-    step : liveFrom ≡ (same (key (getD fs i noFun)) k || among k (map key (drop (i + 1) fs)))
+    step : liveFrom k fs i ≡ (same (key (getD fs i noFun)) k || among k (map key (drop (i + 1) fs)))
     step = rw (add-one i) (ap (λ gs. among k (map key gs)) (drop-cons fs i noFun h))
 
-    pub live-here : (f : Fun) → f ≡ getD fs i noFun → among k (key f ∷ []) ≡ true → liveFrom ≡ true
+    pub live-here : (f : Fun) → f ≡ getD fs i noFun → among k (key f ∷ []) ≡ true → liveFrom k fs i ≡ true
     live-here f e t = step ∙ rw (sym (ap (λ g. same (key g) k) e) ∙ or-false (same (key f) k) ∙ t)
 
-    pub live-later : (f : Fun) → f ≡ getD fs i noFun → among k (key f ∷ []) ≡ false → liveFrom ≡ among k (map key (drop (i + 1) fs))
+    pub live-later : (f : Fun) → f ≡ getD fs i noFun → among k (key f ∷ []) ≡ false → liveFrom k fs i ≡ liveFrom k fs (i + 1)
     live-later f e t = step ∙ rw (sym (ap (λ g. same (key g) k) e) ∙ or-false (same (key f) k) ∙ t)
+
+    pub live-wide : liveFrom k fs (i + 1) ≡ true → liveFrom k fs i ≡ true
+    live-wide e = step ∙ rw e (or-true (same (key (getD fs i noFun)) k))
+
+-- who is among some is among more
+pub live-all : (k : List ℕ) (fs : List Fun) (i : ℕ) → i ≤ length fs → liveFrom k fs i ≡ true → liveFrom k fs 0 ≡ true
+live-all k fs zero h e = e
+live-all k fs (suc i) h e = live-all k fs i (omega arith) (live-wide k fs i (omega arith) (ap (liveFrom k fs) (add-one i) ∙ e))

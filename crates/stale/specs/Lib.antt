@@ -1,1 +1,3 @@
 pub mod Taken
+pub mod InOrder
+pub mod Live

@@ -1,12 +1,13 @@
 // The stale keys: those of entries that no function of the tree has. They are taken one by one in byte order of the whole key, each once.
-// Keys stay where they are, in the lines of the baseline.
+// Keys stay where they are, in the lines of the baseline. Where they never fall there, as in a file that update wrote, they are taken in one pass.
 ghost use mathlib.Core.Path.{_≡_};
 ghost use mathlib.Core.List.{List, [], _∷_, _++_, map};
-ghost use Prim.Native.Nat.{ℕ, _+_, _≤_};
-ghost use mathlib.Core.Bool.{true};
+ghost use Prim.Native.Nat.{ℕ, _+_, _*_, _≤_, _<_};
+ghost use mathlib.Core.Bool.{true, false};
 ghost use lib.ListN.{length};
 ghost use Rattle.text_rules.specs.Bytes.{among, before, putAt};
 ghost use Rattle.text_rules.specs.Search.{part};
+ghost use Rattle.text_rules.specs.U32.{u32At};
 ghost use Rattle.text_rules.specs.Utf8.{isUtf8};
 ghost use Rattle.gate_rules.specs.Baseline.{entriesOfLines, entryOf};
 ghost use Rattle.gate_rules.specs.Check.{listed, spaced, stale};
@@ -14,8 +15,11 @@ ghost use Rattle.gate_rules.specs.Functions.{key};
 ghost use Rattle.gate_rules.specs.Gate.{gate};
 ghost use Rattle.gate_rules.specs.Scan.{functionsOf};
 ghost use Rattle.functions.specs.Shown.{Lies, Stand, shown};
+ghost use Rattle.baseline.specs.Ordered.{Unfalling, fallen, keysIn};
 ghost use Rattle.baseline.specs.Reads.{KeyInside, keyIn};
 ghost use Rattle.order.specs.Best.{Best};
+ghost use Rattle.stale.specs.InOrder.{Past, fits, repeats};
+ghost use Rattle.stale.specs.Live.{liveFrom};
 ghost use Rattle.stale.specs.Taken.{Fit, AllStand, ahead, behind, keyList, nextStale, staleIn};
 use baseline::Key;
 use functions::Function;
@@ -38,20 +42,85 @@ fn has_key(tree: &[u8], f: Function, bytes: &[u8]) -> bool
     baseline::is_key(bytes, &tree[path_at..path_end], &tree[name_at..name_end])
 }
 
-// Whether a function of the tree has the key.
-fn is_live(tree: &[u8], lent: &[u8], n: usize, bytes: &[u8]) -> bool
-    requires { ⌜ AllStand (now tree) (now lent) n ⌝ }
-    ensures { λ r. ⌜ r ≡ among (now (bytes .entry)) (map key (functionsOf gate (now (tree .entry)))) ⌝ }
+// The first of some functions that has the key, or the number behind them.
+fn find_key(tree: &[u8], lent: &[u8], n: usize, from: usize, to: usize, bytes: &[u8]) -> usize
+    requires { ⌜ AllStand (now tree) (now lent) n × (from ≤ to) × (to ≤ n) ⌝ }
+    ensures { λ r. ⌜
+        (r < to → liveFrom (now (bytes .entry)) (functionsOf gate (now (tree .entry))) from ≡ true)
+        × (to ≤ r → liveFrom (now (bytes .entry)) (functionsOf gate (now (tree .entry))) from ≡ liveFrom (now (bytes .entry)) (functionsOf gate (now (tree .entry))) to)
+        ⌝ }
 {
-    let mut k = 0;
-    while k < n {
+    let mut k = from;
+    while k < to {
         let f = functions::function_at(tree, lent, k);
         if has_key(tree, f, bytes) {
-            return true;
+            return k;
         }
         k += 1;
     }
-    false
+    k
+}
+
+// The number of the file that holds a function.
+fn file_at(tree: &[u8], lent: &[u8], k: usize) -> u32
+    requires { ⌜ Stand (now tree) (now lent) × (k < length (functionsOf gate (now tree))) ⌝ }
+    ensures { λ r. ⌜ r ≡ u32At (now (lent .entry)) (k * 32) ⌝ }
+{
+    words::get_u32(lent, k * records::RECORD_WIDTH)
+}
+
+// The first function of the file that holds one.
+fn file_start(tree: &[u8], lent: &[u8], n: usize, k: usize) -> usize
+    requires { ⌜ AllStand (now tree) (now lent) n × (k < n) ⌝ }
+    ensures { λ r. ⌜ r ≤ k ⌝ }
+{
+    let file = file_at(tree, lent, k);
+    let mut first = k;
+    while 0 < first {
+        if file_at(tree, lent, first - 1) != file {
+            return first;
+        }
+        first -= 1;
+    }
+    first
+}
+
+// A yes or no, and a function near which the next key is likely to be found. Any number will do: it only says where a search begins.
+struct Answer {
+    yes: bool,
+    near: usize,
+}
+
+fn least(a: usize, b: usize) -> usize
+    ensures { λ r. ⌜ (r ≤ a) × (r ≤ b) ⌝ }
+{
+    if a < b { a } else { b }
+}
+
+// Whether a function of the tree has the key. Keys of one file stand next to each other, so the file of the last one is searched first.
+fn is_live(tree: &[u8], lent: &[u8], n: usize, near: usize, bytes: &[u8]) -> Answer
+    requires { ⌜ AllStand (now tree) (now lent) n ⌝ }
+    ensures { λ r. ⌜ r .yes ≡ among (now (bytes .entry)) (map key (functionsOf gate (now (tree .entry)))) ⌝ }
+{
+    let start = least(near, n);
+    let behind = find_key(tree, lent, n, start, n, bytes);
+    if behind < n {
+        return Answer {
+            yes: true,
+            near: file_start(tree, lent, n, behind),
+        };
+    }
+    let front = find_key(tree, lent, n, 0, start, bytes);
+    if front < start {
+        return Answer {
+            yes: true,
+            near: file_start(tree, lent, n, front),
+        };
+    }
+    Answer {
+        yes: false,
+        near: start,
+    }
 }
 
 // Behind the last key that was taken. At first none was.
@@ -100,7 +169,8 @@ fn better(
     if !is_ahead(lines, from, to, best) {
         return best;
     }
-    if is_live(tree, lent, n, &lines[from..to]) {
+    let live = is_live(tree, lent, n, 0, &lines[from..to]);
+    if live.yes {
         return best;
     }
     Key::Bytes(from, to)
@@ -150,9 +220,145 @@ pub fn next_stale(tree: &[u8], lent: &[u8], n: usize, lines: &[u8], last: Key) -
     best
 }
 
+// Whether a key is the last one that was taken.
+fn is_last(lines: &[u8], last: Key, from: usize, to: usize) -> bool
+    requires { ⌜ KeyInside (now lines) last × (from ≤ to) × (to ≤ length (now lines)) ⌝ }
+    ensures { λ r. ⌜ r ≡ repeats (keyIn (now (lines .entry)) last) (part from to (now (lines .entry))) ⌝ }
+{
+    match last {
+        Key::Bytes(a, b) => order::same_bytes(&lines[a..b], &lines[from..to]),
+        Key::Nothing => false,
+    }
+}
+
+// Whether the key of a line is stale and behind the last one that was taken, which it does not stand before: then it is behind where it is another.
+fn is_next(
+    tree: &[u8],
+    lent: &[u8],
+    n: usize,
+    lines: &[u8],
+    last: Key,
+    here: Key,
+    near: usize,
+) -> Answer
+    requires { ⌜
+        AllStand (now tree) (now lent) n
+        × KeyInside (now lines) last
+        × KeyInside (now lines) here
+        × (fallen (keyIn (now lines) last) (keyIn (now lines) here) ≡ false)
+        ⌝ }
+    ensures { λ r. ⌜ r .yes ≡ fits (map key (functionsOf gate (now (tree .entry)))) (keyIn (now (lines .entry)) last) (keyIn (now (lines .entry)) here) ⌝ }
+{
+    match here {
+        Key::Bytes(from, to) => {
+            if is_last(lines, last, from, to) {
+                return Answer { yes: false, near };
+            }
+            let live = is_live(tree, lent, n, near, &lines[from..to]);
+            Answer {
+                yes: !live.yes,
+                near: live.near,
+            }
+        }
+        Key::Nothing => Answer { yes: false, near },
+    }
+}
+
+// A stale key, a place behind its line, and where the next search for a function begins.
+pub struct Next {
+    pub key: Key,
+    pub place: usize,
+    pub near: usize,
+}
+
+// The first stale key behind the last one, where keys never fall. No key in front of the place is behind the last one, and none from there on before it.
+fn next_in_order(
+    tree: &[u8],
+    lent: &[u8],
+    n: usize,
+    lines: &[u8],
+    last: Key,
+    place: usize,
+    near: usize,
+) -> Next
+    requires { ⌜
+        AllStand (now tree) (now lent) n
+        × KeyInside (now lines) last
+        × Unfalling (keysIn (now lines))
+        × Past (now lines) (keyIn (now lines) last) place
+        ⌝ }
+    ensures { λ r. ⌜
+        KeyInside (now (lines .entry)) (r .key)
+        × (keyIn (now (lines .entry)) (r .key) ≡ nextStale (entriesOfLines (now (lines .entry))) (functionsOf gate (now (tree .entry))) (keyIn (now (lines .entry)) last))
+        × Past (now (lines .entry)) (keyIn (now (lines .entry)) (r .key)) (r .place)
+        ⌝ }
+{
+    let mut from = place;
+    let mut close = near;
+    while from < lines.len() {
+        let end = baseline::line_end(lines, from);
+        let to = baseline::trimmed_end(lines, from, end);
+        let here = baseline::key_at(lines, from, to);
+        let asked = is_next(tree, lent, n, lines, last, here, close);
+        close = asked.near;
+        if asked.yes {
+            return Next {
+                key: here,
+                place: end + 1,
+                near: close,
+            };
+        }
+        from = end + 1;
+    }
+    Next {
+        key: Key::Nothing,
+        place: 0,
+        near: close,
+    }
+}
+
+// The first stale key behind the last one. Where keys never fall, no key in front of the place is behind the last one.
+fn step(
+    tree: &[u8],
+    lent: &[u8],
+    n: usize,
+    lines: &[u8],
+    ordered: bool,
+    last: Key,
+    place: usize,
+    near: usize,
+) -> Next
+    requires { ⌜
+        AllStand (now tree) (now lent) n
+        × KeyInside (now lines) last
+        × (ordered ≡ true → Unfalling (keysIn (now lines)))
+        × (ordered ≡ true → Past (now lines) (keyIn (now lines) last) place)
+        ⌝ }
+    ensures { λ r. ⌜
+        KeyInside (now (lines .entry)) (r .key)
+        × (keyIn (now (lines .entry)) (r .key) ≡ nextStale (entriesOfLines (now (lines .entry))) (functionsOf gate (now (tree .entry))) (keyIn (now (lines .entry)) last))
+        × (ordered ≡ true → Past (now (lines .entry)) (keyIn (now (lines .entry)) (r .key)) (r .place))
+        ⌝ }
+{
+    if ordered {
+        return next_in_order(tree, lent, n, lines, last, place, near);
+    }
+    let key = next_stale(tree, lent, n, lines, last);
+    Next {
+        key,
+        place: 0,
+        near: 0,
+    }
+}
+
 // How many stale keys there are, and the bytes of their lines.
-pub fn measure(tree: &[u8], lent: &[u8], n: usize, lines: &[u8]) -> Size
-    requires { ⌜ AllStand (now tree) (now lent) n × (isUtf8 (now lines) ≡ true) × (length (now lines) ≤ 33554432) ⌝ }
+pub fn measure(tree: &[u8], lent: &[u8], n: usize, lines: &[u8], ordered: bool) -> Size
+    requires { ⌜
+        AllStand (now tree) (now lent) n
+        × (isUtf8 (now lines) ≡ true)
+        × (length (now lines) ≤ 33554432)
+        × (ordered ≡ true → Unfalling (keysIn (now lines)))
+        ⌝ }
     ensures { λ r. ⌜
         (r .count ≡ length (staleIn (now (tree .entry)) (now (lines .entry))))
         × (r .bytes ≡ length (listed (map spaced (staleIn (now (tree .entry)) (now (lines .entry))))))
@@ -161,15 +367,20 @@ pub fn measure(tree: &[u8], lent: &[u8], n: usize, lines: &[u8]) -> Size
         ⌝ }
 {
     let mut last = Key::Nothing;
+    let mut place: usize = 0;
+    let mut near: usize = 0;
     let mut count: usize = 0;
     let mut bytes: usize = 0;
     loop {
-        let next = next_stale(tree, lent, n, lines, last);
-        match next {
+        let next = step(tree, lent, n, lines, ordered, last, place, near);
+        let key = next.key;
+        match key {
             Key::Bytes(from, to) => {
                 count += 1;
                 bytes += 3 + (to - from);
                 last = Key::Bytes(from, to);
+                place = next.place;
+                near = next.near;
             }
             Key::Nothing => {
                 return Size { count, bytes };
@@ -197,6 +408,7 @@ pub fn put_all(
     lent: &[u8],
     n: usize,
     lines: &[u8],
+    ordered: bool,
     count: usize,
     out: &mut [u8],
     at: usize,
@@ -205,6 +417,7 @@ pub fn put_all(
         AllStand (now tree) (now lent) n
         × (count ≡ length (staleIn (now tree) (now lines)))
         × (at + length (listed (map spaced (staleIn (now tree) (now lines)))) ≤ length (now out))
+        × (ordered ≡ true → Unfalling (keysIn (now lines)))
         ⌝ }
     ensures { λ r. ⌜
         (r ≡ at + length (listed (map spaced (staleIn (now (tree .entry)) (now (lines .entry))))))
@@ -212,14 +425,19 @@ pub fn put_all(
         ⌝ }
 {
     let mut last = Key::Nothing;
+    let mut place: usize = 0;
+    let mut near: usize = 0;
     let mut done = at;
     let mut k: usize = 0;
     while k < count {
-        let next = next_stale(tree, lent, n, lines, last);
-        match next {
+        let next = step(tree, lent, n, lines, ordered, last, place, near);
+        let key = next.key;
+        match key {
             Key::Bytes(from, to) => {
                 done = put_key(out, done, &lines[from..to]);
                 last = Key::Bytes(from, to);
+                place = next.place;
+                near = next.near;
                 k += 1;
             }
             Key::Nothing => {

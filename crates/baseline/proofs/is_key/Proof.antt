@@ -8,7 +8,7 @@ use borrow.Author.Needs.{needs}
 use borrow.Author.Tests.{not-false, not-true}
 use Rattle.text_rules.specs.Bytes.{same}
 use Rattle.text_rules.specs.ScanLaws.{rest-part}
-use Rattle.baseline.proofs.Keys.{key-name, key-path, key-short, key-tab}
+use Rattle.baseline.proofs.Keys.{key-other, key-path, key-short, key-tab}
 use Rattle.baseline.proofs.is_key.Statement.{statement}
 use Rattle.baseline.proofs.is_key.Tie as tie
 
@@ -20,14 +20,17 @@ returns-2 c =
     let a = c .before .before .before .before .before .before .args in
     sym (key-tab (a .key .now) (a .path .now) (a .name .now) (omega arith) (c .if2 .taken))
 
-slice-aggregate-same-bytes : tie.Need-slice-aggregate-same-bytes
-slice-aggregate-same-bytes c = sym (length-take-le _ _ (omega arith))
-
 returns-3 : tie.Need-returns-3
 returns-3 c =
     let call = c .before in
     let a = call .before .before .before .before .before .before .before .before .args in
-    sym (key-path (a .key .now) (a .path .now) (a .name .now) (omega arith) (sym (call .same-bytes .ensures) ∙ not-true _ (c .if3 .taken)))
+    let key = a .key .now in
+    let path = a .path .now in
+    sym (key-other key path (a .name .now) (omega arith)
+    (sym (call .same-bytes .ensures ∙ ap (λ s. same s (a .name .now)) (rest-part key (length path + 1))) ∙ not-true _ (c .if3 .taken)))
+
+slice-aggregate-same-bytes : tie.Need-slice-aggregate-same-bytes
+slice-aggregate-same-bytes c = sym (length-take-le _ _ (omega arith))
 
 returns-4 : tie.Need-returns-4
 returns-4 c =
@@ -38,8 +41,11 @@ returns-4 c =
     let key = a .key .now in
     let path = a .path .now in
     c .same-bytes2 .ensures
-    ∙ ap (λ s. same s (a .name .now)) (rest-part key (length path + 1))
-    ∙ sym (key-name key path (a .name .now) (omega arith) (two .if2 .left) (sym (call .same-bytes .ensures) ∙ not-false _ (t .if3 .left)))
+    ∙ sym (key-path key path (a .name .now) (omega arith) (two .if2 .left)
+    (sym (call .same-bytes .ensures ∙ ap (λ s. same s (a .name .now)) (rest-part key (length path + 1))) ∙ not-false _ (t .if3 .left)))
 
 pub is-key-spec : {M : Type 1} → statement M
-is-key-spec = tie.close (tie.spec returns (λ c. search needs) returns-2 slice-aggregate-same-bytes (λ c κs. search needs) returns-3 (λ c. search needs) (λ c. search needs) (λ c. search needs) (λ c. search needs) (λ c κs. search needs) returns-4)
+is-key-spec =
+    tie.close
+    (tie.spec returns (λ c. search needs) returns-2 (λ c. search needs) (λ c. search needs) (λ c. search needs) (λ c. search needs) (λ c κs. search needs) returns-3
+    slice-aggregate-same-bytes (λ c κs. search needs) returns-4)

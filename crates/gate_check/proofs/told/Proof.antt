@@ -16,9 +16,15 @@ use borrow.Author.Needs.{needs}
 use Rattle.gate_check.proofs.told.Statement.{statement}
 use Rattle.gate_check.proofs.told.Tie as tie
 
+measure-requires : tie.Need-measure-requires
+measure-requires c κs = let p = c .before .before .before .before .before .pre in (p .0, p .1, p .2, c .keys-rise .ensures)
+
+measure-requires-2 : tie.Need-measure-requires-2
+measure-requires-2 c κs = let p = c .before .before .before .before .before .before .pre in (p .0 .stand, p .0 .count, c .before .keys-rise .ensures)
+
 returns : tie.Need-returns
 returns c =
-    let s = c .before .before .before .before .before .before .before .before .before .before in
+    let s = c .before .before .before .before .before .before .before .before .before .before .before in
     let a = s .args in
     let L = limitsOf (a .limits) in
     let es = entriesOfLines (now (a .lines)) in
@@ -30,7 +36,7 @@ returns c =
 
 put-stale-requires : tie.Need-put-stale-requires
 put-stale-requires c κs =
-    let s = c .before .before .before .before .before .before .before .before .before .before in
+    let s = c .before .before .before .before .before .before .before .before .before .before .before in
     let a = s .args in
     let L = limitsOf (a .limits) in
     let es = entriesOfLines (now (a .lines)) in
@@ -38,11 +44,11 @@ put-stale-requires c κs =
     let gone = c .before .before .before .before .before .measure .ensures in
     let worse = c .before .before .before .before .measure2 .ensures in
     let bytes = measured-length L es fs _ _ _ _ (gone .0) (gone .1) (worse .0) (worse .1) in
-    (s .pre .0, gone .0, omega (arith, c .before .if1 .left, c .before .before .before .stale-length .ensures .0, c .before .before .verdict-length .ensures .0, bytes, both-length L es fs))
+    (s .pre .0, gone .0, omega (arith, c .before .if1 .left, c .before .before .before .stale-length .ensures .0, c .before .before .verdict-length .ensures .0, bytes, both-length L es fs), c .before .before .before .before .before .before .keys-rise .ensures)
 
 put-verdict-requires : tie.Need-put-verdict-requires
 put-verdict-requires c κs =
-    let s = c .before .before .before .before .before .before .before .before .before .before .before .before .before .before in
+    let s = c .before .before .before .before .before .before .before .before .before .before .before .before .before .before .before in
     let a = s .args in
     let L = limitsOf (a .limits) in
     let es = entriesOfLines (now (a .lines)) in
@@ -50,11 +56,11 @@ put-verdict-requires c κs =
     let gone = c .before .before .before .before .before .before .before .before .before .measure .ensures in
     let worse = c .before .before .before .before .before .before .before .before .measure2 .ensures in
     let bytes = measured-length L es fs _ _ _ _ (gone .0) (gone .1) (worse .0) (worse .1) in
-    (s .pre .0, worse .0, omega (arith, c .before .before .before .before .before .if1 .left, c .before .before .before .put-stale .ensures .0, c .before .before .before .before .before .before .before .stale-length .ensures .0, c .before .before .before .before .before .before .verdict-length .ensures .0, bytes, both-length L es fs))
+    (s .pre .0, worse .0, omega (arith, c .before .before .before .before .before .if1 .left, c .before .before .before .put-stale .ensures .0, c .before .before .before .before .before .before .before .stale-length .ensures .0, c .before .before .before .before .before .before .verdict-length .ensures .0, bytes, both-length L es fs), c .before .before .before .before .before .before .before .before .before .before .keys-rise .ensures)
 
-cast-t19 : tie.Need-cast-t19
-cast-t19 c =
-    let s = c .before .before .before .before .before .before .before .before .before .before .before .before .before .before .before .before .before in
+cast-t20 : tie.Need-cast-t20
+cast-t20 c =
+    let s = c .before .before .before .before .before .before .before .before .before .before .before .before .before .before .before .before .before .before in
     let a = s .args in
     let L = limitsOf (a .limits) in
     let es = entriesOfLines (now (a .lines)) in
@@ -69,13 +75,13 @@ cast-t19 c =
       );
     }
 
-cast-t20 : tie.Need-cast-t20
-cast-t20 c =
-    let s = c .before .before .before .before .before .before .before .before .before .before .before .before .before .before .before .before .before in record { fits = omega (arith, s .pre .0 .count, s .pre .0 .stand .few) }
+cast-t21 : tie.Need-cast-t21
+cast-t21 c =
+    let s = c .before .before .before .before .before .before .before .before .before .before .before .before .before .before .before .before .before .before in record { fits = omega (arith, s .pre .0 .count, s .pre .0 .stand .few) }
 
 returns-2 : tie.Need-returns-2
 returns-2 c =
-    let s = c .before .before .before .before .before .before .before .before .before .before .before .before .before .before .before .before .before .before .before in
+    let s = c .before .before .before .before .before .before .before .before .before .before .before .before .before .before .before .before .before .before .before .before in
     let a = s .args in
     let L = limitsOf (a .limits) in
     let es = entriesOfLines (now (a .lines)) in
@@ -90,5 +96,5 @@ returns-2 c =
 pub told-spec : {M : Type 1} → statement M
 told-spec =
     tie.close
-    (tie.spec (λ c κs. search needs) (λ c κs. search needs) (λ c κs. search needs) (λ c κs. search needs) (λ c. search needs) (λ c κs. search needs) returns
-    put-stale-requires put-verdict-requires cast-t19 cast-t20 (λ c. search needs) (λ c. search needs) (λ c. search needs) returns-2)
+    (tie.spec (λ c κs. search needs) measure-requires measure-requires-2 (λ c κs. search needs) (λ c κs. search needs) (λ c. search needs) (λ c κs. search needs) returns
+    put-stale-requires put-verdict-requires cast-t20 cast-t21 (λ c. search needs) (λ c. search needs) (λ c. search needs) returns-2)

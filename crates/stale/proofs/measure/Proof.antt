@@ -1,6 +1,7 @@
 -- `stale::measure` meets its contract: as many keys were taken as are counted, and their lines have the bytes that were added up.
 use Prim.Native.Nat.{_+_, _-_}
-use mathlib.Core.Path.{_≡_, refl, ap, _∙_}
+use mathlib.Core.Path.{_≡_, refl, ap, subst, _∙_}
+use mathlib.Core.Bool.{true}
 use native.Mathlib.Omega.{arith}
 use lib.ListN.{length, take}
 use denote.Ref.{now}
@@ -9,24 +10,28 @@ use Rattle.gate_rules.specs.Baseline.{entriesOfLines}
 use Rattle.gate_rules.specs.Check.{listed, stale}
 use Rattle.gate_rules.specs.Gate.{gate}
 use Rattle.gate_rules.specs.Scan.{functionsOf}
+use Rattle.baseline.specs.Reads.{keyIn}
+use Rattle.stale.specs.InOrder.{Past, past-start}
 use Rattle.stale.specs.Taken.{staleIn}
 use Rattle.stale.proofs.Taking.{TakenTo, all-taken, bounds, bytes-next, count-small, keyLines, lines-most, lines-small, more, taken-more, taken-none}
 use Rattle.stale.proofs.measure.Statement.{statement}
 use Rattle.stale.proofs.measure.Tie as tie
 
 abbrev Inv-loop : tie.InvT-loop
-Inv-loop tree lent n lines last₀ count₀ bytes₀ last count bytes =
-    TakenTo (entriesOfLines lines) (functionsOf gate tree) lines last count × (bytes ≡ length (keyLines (take count (staleIn tree lines))))
+Inv-loop tree lent n lines ordered last₀ place₀ near₀ count₀ bytes₀ last place near count bytes =
+    TakenTo (entriesOfLines lines) (functionsOf gate tree) lines last count
+    × (bytes ≡ length (keyLines (take count (staleIn tree lines))))
+    × (ordered ≡ true → Past lines (keyIn lines last) place)
 
 abbrev μ-loop : tie.MeasureT-loop
-μ-loop tree lent n lines last₀ count₀ bytes₀ last count bytes = length (staleIn tree lines) - count
+μ-loop tree lent n lines ordered last₀ place₀ near₀ count₀ bytes₀ last place near count bytes = length (staleIn tree lines) - count
 
 loop-holds : tie.Need-loop-holds Inv-loop μ-loop
 unfolding listed
-loop-holds c = (taken-none _ _ _, refl)
+loop-holds c = (taken-none _ _ _, refl, λ e. past-start _)
 
-next-stale-requires : tie.Need-next-stale-requires Inv-loop μ-loop
-next-stale-requires c κs = (c .before .before .before .before .pre .0, c .loop .inv .0 .inside)
+step-requires : tie.Need-step-requires Inv-loop μ-loop
+step-requires c κs = (c .before .before .before .before .pre .0, c .loop .inv .0 .inside, c .before .before .before .before .pre .3, c .loop .inv .2)
 
 add-count : tie.Need-add-count Inv-loop μ-loop
 add-count c =
@@ -38,7 +43,7 @@ add-count c =
     let es = entriesOfLines (now (a .lines)) in
     let fs = functionsOf gate (now (a .tree)) in
     let p = s .pre in
-    record { fits = omega (arith, count-small (now (a .tree)) (now (a .lent)) (now (a .lines)) (p .0 .stand) (p .1) (p .2), more es fs (now (a .lines)) (l .loop .last) (call .next-stale .result) (l .loop .count) (l .loop .inv .0) (call .next-stale .ensures .0) (call .next-stale .ensures .1) _ _ (nx .next .given .1) .0) }
+    record { fits = omega (arith, count-small (now (a .tree)) (now (a .lent)) (now (a .lines)) (p .0 .stand) (p .1) (p .2), more es fs (now (a .lines)) (l .loop .last) (call .step .result .key) (l .loop .count) (l .loop .inv .0) (call .step .ensures .0) (call .step .ensures .1) _ _ (nx .key .given .1) .0) }
 
 sub-bytes : tie.Need-sub-bytes Inv-loop μ-loop
 sub-bytes c =
@@ -49,7 +54,7 @@ sub-bytes c =
     let a = s .args in
     let es = entriesOfLines (now (a .lines)) in
     let fs = functionsOf gate (now (a .tree)) in
-    bounds es fs (now (a .lines)) (l .loop .last) (call .next-stale .result) (l .loop .count) (l .loop .inv .0) (call .next-stale .ensures .0) (call .next-stale .ensures .1) _ _ (nx .next .given .1) .0
+    bounds es fs (now (a .lines)) (l .loop .last) (call .step .result .key) (l .loop .count) (l .loop .inv .0) (call .step .ensures .0) (call .step .ensures .1) _ _ (nx .key .given .1) .0
 
 add-bytes : tie.Need-add-bytes Inv-loop μ-loop
 add-bytes c =
@@ -61,7 +66,7 @@ add-bytes c =
     let es = entriesOfLines (now (a .lines)) in
     let fs = functionsOf gate (now (a .tree)) in
     let p = s .pre in
-    record { fits = omega (arith, p .2, bounds es fs (now (a .lines)) (l .loop .last) (call .next-stale .result) (l .loop .count) (l .loop .inv .0) (call .next-stale .ensures .0) (call .next-stale .ensures .1) _ _ (nx .next .given .1)) }
+    record { fits = omega (arith, p .2, bounds es fs (now (a .lines)) (l .loop .last) (call .step .result .key) (l .loop .count) (l .loop .inv .0) (call .step .ensures .0) (call .step .ensures .1) _ _ (nx .key .given .1)) }
 
 add-bytes-2 : tie.Need-add-bytes-2 Inv-loop μ-loop
 add-bytes-2 c =
@@ -77,7 +82,7 @@ add-bytes-2 c =
       fits = omega (
         arith,
         l .loop .inv .1,
-        bytes-next es fs (now (a .lines)) (l .loop .last) (call .next-stale .result) (l .loop .count) (l .loop .inv .0) (call .next-stale .ensures .0) (call .next-stale .ensures .1) _ _ (nx .next .given .1),
+        bytes-next es fs (now (a .lines)) (l .loop .last) (call .step .result .key) (l .loop .count) (l .loop .inv .0) (call .step .ensures .0) (call .step .ensures .1) _ _ (nx .key .given .1),
         lines-most (stale es fs) (l .loop .count + 1),
         lines-small (now (a .tree)) (now (a .lent)) (now (a .lines)) (p .0 .stand) (p .1) (p .2),
       );
@@ -92,7 +97,7 @@ loop-less c =
     let a = s .args in
     let es = entriesOfLines (now (a .lines)) in
     let fs = functionsOf gate (now (a .tree)) in
-    omega (arith, more es fs (now (a .lines)) (l .loop .last) (call .next-stale .result) (l .loop .count) (l .loop .inv .0) (call .next-stale .ensures .0) (call .next-stale .ensures .1) _ _ (nx .next .given .1) .0)
+    omega (arith, more es fs (now (a .lines)) (l .loop .last) (call .step .result .key) (l .loop .count) (l .loop .inv .0) (call .step .ensures .0) (call .step .ensures .1) _ _ (nx .key .given .1) .0)
 
 loop-again : tie.Need-loop-again Inv-loop μ-loop
 loop-again c =
@@ -103,8 +108,9 @@ loop-again c =
     let a = s .args in
     let es = entriesOfLines (now (a .lines)) in
     let fs = functionsOf gate (now (a .tree)) in (
-      taken-more es fs (now (a .lines)) (l .loop .last) (call .next-stale .result) (l .loop .count) (l .loop .inv .0) (call .next-stale .ensures .0) (call .next-stale .ensures .1) _ _ (nx .next .given .1),
-      omega (arith, l .loop .inv .1, bytes-next es fs (now (a .lines)) (l .loop .last) (call .next-stale .result) (l .loop .count) (l .loop .inv .0) (call .next-stale .ensures .0) (call .next-stale .ensures .1) _ _ (nx .next .given .1)),
+      taken-more es fs (now (a .lines)) (l .loop .last) (call .step .result .key) (l .loop .count) (l .loop .inv .0) (call .step .ensures .0) (call .step .ensures .1) _ _ (nx .key .given .1),
+      omega (arith, l .loop .inv .1, bytes-next es fs (now (a .lines)) (l .loop .last) (call .step .result .key) (l .loop .count) (l .loop .inv .0) (call .step .ensures .0) (call .step .ensures .1) _ _ (nx .key .given .1)),
+      λ e. subst (λ k. Past (now (a .lines)) (keyIn (now (a .lines)) k) (call .step .result .place)) (nx .key .given .1) (call .step .ensures .2 e),
     )
 
 returns : tie.Need-returns Inv-loop μ-loop
@@ -116,7 +122,7 @@ returns c =
     let p = s .pre in
     let es = entriesOfLines (now (a .lines)) in
     let fs = functionsOf gate (now (a .tree)) in
-    let all = all-taken es fs (now (a .lines)) (l .loop .last) (call .next-stale .result) (l .loop .count) (l .loop .inv .0) (call .next-stale .ensures .0) (call .next-stale .ensures .1) (c .enum-told .given .1) in
+    let all = all-taken es fs (now (a .lines)) (l .loop .last) (call .step .result .key) (l .loop .count) (l .loop .inv .0) (call .step .ensures .0) (call .step .ensures .1) (c .enum-told .given .1) in
     let bytes = l .loop .inv .1 ∙ ap (λ ks. length (keyLines ks)) (all .0) in (
       all .1,
       bytes,
@@ -127,4 +133,4 @@ returns c =
 pub measure-spec : {M : Type 1} → statement M
 measure-spec =
     tie.close
-    (tie.spec Inv-loop μ-loop loop-holds next-stale-requires (λ c. search needs) add-count sub-bytes add-bytes add-bytes-2 loop-less loop-again (λ c. search needs) returns)
+    (tie.spec Inv-loop μ-loop loop-holds step-requires (λ c. search needs) add-count sub-bytes add-bytes add-bytes-2 loop-less loop-again (λ c. search needs) returns)
