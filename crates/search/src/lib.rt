@@ -110,7 +110,7 @@ pub struct Unclosed {
 }
 
 // At the start of a text: from the last closing bracket on, none has a partner.
-pub fn known_first(s: &[u8], opening: u8, closing: u8) -> Unclosed
+fn known_first(s: &[u8], opening: u8, closing: u8) -> Unclosed
     requires { ⌜ closing ≢ 0 ⌝ }
     ensures { λ r. ⌜ Knows opening closing (now (s .entry)) r ⌝ }
 {
