@@ -6,7 +6,7 @@ use mathlib.Core.Bool.{true}
 use mathlib.Core.List.{List}
 use mathlib.Core.Option.{Option, none, some}
 use lib.ListN.{drop, getD, length}
-use Rattle.text_rules.specs.Classes.{braceClose, braceOpen, roundClose, roundOpen}
+use Rattle.text_rules.specs.Classes.{angleClose, angleOpen, braceClose, braceOpen, roundClose, roundOpen, semicolon, squareClose, squareOpen}
 use Rattle.source_rules.specs.Brackets.{partner}
 use Rattle.source_rules.specs.Finding.{bodyAt, flat}
 use Rattle.search.specs.declared.Bare.{Bare}
@@ -24,6 +24,10 @@ placeOf Nowhere = none
 -- no byte x stands from a place on
 unfoldable pub Absent : ℕ → List ℕ → ℕ → Type 0
 Absent x s from = (k : ℕ) → from ≤ k → getD s k 0 ≢ x
+
+-- a byte that a search for a body neither counts nor stops at
+abbrev pub Plain : ℕ → Type 0
+Plain b = (b ≢ braceOpen) × (b ≢ semicolon) × (b ≢ angleOpen) × (b ≢ angleClose) × (b ≢ squareOpen) × (b ≢ squareClose)
 
 -- what a search for a partner meets: the partner, or a depth with which it goes on
 abbrev pub Meets : List ℕ → (opening closing from to depth : ℕ) → Met → Type 0

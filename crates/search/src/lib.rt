@@ -12,7 +12,7 @@ ghost use Rattle.text_rules.specs.Classes.{braceClose, braceOpen, isSpace, isWo
 ghost use Rattle.text_rules.specs.Search.{countAfter, find, run, startsWith};
 ghost use Rattle.source_rules.specs.Brackets.{partner};
 ghost use Rattle.source_rules.specs.Finding.{angleAfter, bodyAt, flat, isFn};
-ghost use Rattle.search.specs.Place.{Absent, Knows, Learned, Meets, Passed, Vain, placeOf};
+ghost use Rattle.search.specs.Place.{Absent, Knows, Learned, Meets, Passed, Plain, Vain, placeOf};
 
 // A place in a text, if there is one.
 pub enum Place {
@@ -255,9 +255,22 @@ pub fn count_after(x: u8, b: u8, n: usize) -> usize
     if b == x { n + 1 } else { n }
 }
 
+// Whether a byte is none of those that a search for a body counts or stops at, by two tests: it stands below `;`, or between `]` and `{`.
+fn is_plain(b: u8) -> bool
+    ensures { λ r. ⌜ (r ≡ true → Plain b) ⌝ }
+{
+    if b < b';' {
+        return true;
+    }
+    if b <= b']' {
+        return false;
+    }
+    b < b'{'
+}
+
 // The brace that opens a body: the first one at angle and square depth 0, if no `;` stands there before it. A `;` inside, as in `[u8; 4]`,
 // ends nothing.
-pub fn body_open(s: &[u8], from: usize) -> Place
+fn body_open(s: &[u8], from: usize) -> Place
     ensures { λ r. ⌜ placeOf r ≡ bodyAt 0 0 0 from (drop from (now (s .entry))) ⌝ }
 {
     let mut angle: usize = 0;
@@ -266,18 +279,22 @@ pub fn body_open(s: &[u8], from: usize) -> Place
     let mut at = from;
     while at < s.len() {
         let b = s[at];
-        if is_flat(angle, opened, closed) {
-            if b == b'{' {
-                return Place::At(at);
+        if is_plain(b) {
+            at += 1;
+        } else {
+            if is_flat(angle, opened, closed) {
+                if b == b'{' {
+                    return Place::At(at);
+                }
+                if b == b';' {
+                    return Place::Nowhere;
+                }
             }
-            if b == b';' {
-                return Place::Nowhere;
-            }
+            angle = angle_after(b, angle);
+            opened = count_after(b'[', b, opened);
+            closed = count_after(b']', b, closed);
+            at += 1;
         }
-        angle = angle_after(b, angle);
-        opened = count_after(b'[', b, opened);
-        closed = count_after(b']', b, closed);
-        at += 1;
     }
     Place::Nowhere
 }
