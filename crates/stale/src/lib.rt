@@ -322,10 +322,10 @@ fn is_next(
 }
 
 // A stale key, a place behind its line, and where the next search for a function begins.
-pub struct Next {
-    pub key: Key,
-    pub place: usize,
-    pub near: usize,
+struct Next {
+    key: Key,
+    place: usize,
+    near: usize,
 }
 
 // The first stale key behind the last one, where keys never fall. No key in front of the place is behind the last one, and none from there on before it.
