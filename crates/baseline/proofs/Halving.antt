@@ -130,6 +130,7 @@ found-below s k at b =
     found-start k (drop at s)
     ∙ ap acceptedBy (sym (ap (lookup k) (b .cut) ∙ lookup-skip k (b .passed) (entriesOfLines (drop at s)) (All-map _ _ (λ j e. before-other j k e) (map entryKey (b .passed)) (b .all-before))))
 
+-- and the keys from there on never fall
 pub rest-rises : (s k : List ℕ) (at : ℕ) → Below s k at → Unfalling (keysIn s) → Unfalling (keysIn (drop at s))
 rest-rises s k at b u = unfalling-rest (map entryKey (b .passed)) (keysIn (drop at s)) (subst Unfalling (ap (map entryKey) (b .cut) ∙ map-append entryKey (b .passed) (entriesOfLines (drop at s))) u)
 

@@ -68,9 +68,10 @@ module _ (s p n : List ℕ) (h : length p < length s) where
       name-before k = before-parts s p n h ∙ rw (e, f, k, add-one (length p))
 
 -- no text stands before itself
-pub before-not : (s : List ℕ) → before s s ≡ false
+before-not : (s : List ℕ) → before s s ≡ false
 before-not s = elim (whether (before s s)) [ inl e ↦ absurd (before-orders .asym s s e e) | inr e ↦ e ]
 
+-- a text that stands before another is not the same
 pub before-other : (s t : List ℕ) → before s t ≡ true → same s t ≡ false
 before-other s t h =
     elim (whether (same s t)) [

@@ -43,7 +43,7 @@ latest last (Bytes from to) = Bytes from to
 latest last Nothing = last
 
 -- what is not before the last key is not before any
-pub not-before : (r s t : List ℕ) → before s r ≡ false → before t s ≡ false → before t r ≡ false
+not-before : (r s t : List ℕ) → before s r ≡ false → before t s ≡ false → before t r ≡ false
 not-before r s t h k =
     elim (whether (before t r)) [
       | inr e ↦ e
@@ -99,7 +99,8 @@ keys-next s from end to k e p q =
     ∙ map-append entryKey (entryList here) rest
     ∙ ap (λ ks. ks ++ map entryKey rest) (line-key here ∙ ap oneKey (sym q))
 
-pub keys-end : (s : List ℕ) (at : ℕ) → length s ≤ at → keysIn (drop at s) ≡ []
+-- no line is left
+keys-end : (s : List ℕ) (at : ℕ) → length s ≤ at → keysIn (drop at s) ≡ []
 keys-end s at h = ap (map entryKey) (entries-end s at h)
 
 -- the keys up to a place, after a line more
@@ -107,5 +108,6 @@ pub cut-next : (s : List ℕ) (from end : ℕ) (seen : List (List ℕ)) (k : Opt
     → keysIn (drop from s) ≡ oneKey k ++ keysIn (drop (end + 1) s) → keysIn s ≡ (seen ++ oneKey k) ++ keysIn (drop (end + 1) s)
 cut-next s from end seen k c n = c ∙ ap (λ ks. seen ++ ks) n ∙ sym (append-assoc seen (oneKey k) (keysIn (drop (end + 1) s)))
 
+-- and when all lines were read
 pub cut-end : (s : List ℕ) (from : ℕ) (seen : List (List ℕ)) → length s ≤ from → keysIn s ≡ seen ++ keysIn (drop from s) → seen ≡ keysIn s
 cut-end s from seen h c = sym (c ∙ ap (λ ks. seen ++ ks) (keys-end s from h) ∙ append-nil seen)

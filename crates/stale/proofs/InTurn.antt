@@ -20,10 +20,12 @@ use Rattle.stale.specs.Taken.{Fit, next-found, nextStale}
 use Rattle.stale.proofs.Lines.{Upto}
 
 module _ (fs : List Fun) (last : Option (List ℕ)) (s : List ℕ) where
+  -- at a place in front of which no key is behind the last one
   pub turn-start : (place : ℕ) → Past s last place → Upto fs last s Nothing place
   turn-start place p = record { seen = p .passed; cut = p .cut; best-is = none-fit (map key fs) last (p .passed) (p .none-behind); inside = tt }
 
   module _ (from end to : ℕ) (u : Upto fs last s Nothing from) (e : end ≡ from + bytesBefore 10 (drop from s)) (p : part from to s ≡ lineAt s from end) where
+    -- the key of the line may not be taken
     pub turn-next : (here : Key) → keyIn s here ≡ keyOfEntry (entryOf (part from to s)) → fits (map key fs) last (keyIn s here) ≡ false → Upto fs last s Nothing (end + 1)
     turn-next (Bytes a b) q f =
         let k = part a b s in
@@ -41,6 +43,7 @@ module _ (fs : List Fun) (last : Option (List ℕ)) (s : List ℕ) where
           inside = tt;
         }
 
+    -- or it may, and is the next one
     pub turn-found : (here : Key) → keyIn s here ≡ keyOfEntry (entryOf (part from to s)) → Unfalling (keysIn s) → fits (map key fs) last (keyIn s here) ≡ true
         → (keyIn s here ≡ nextStale (entriesOfLines s) fs last) × Past s (keyIn s here) (end + 1)
     turn-found (Bytes a b) q rise f =

@@ -1,5 +1,6 @@
 -- The laws that the functions cite.
 mod Live
+mod OneFile
 mod OneMore
 mod Lines
 mod Taking

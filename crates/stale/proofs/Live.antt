@@ -47,7 +47,7 @@ module _ (k : List ℕ) (fs : List Fun) (i : ℕ) where
     pub live-later : (f : Fun) → f ≡ getD fs i noFun → among k (key f ∷ []) ≡ false → liveFrom k fs i ≡ liveFrom k fs (i + 1)
     live-later f e t = step ∙ rw (sym (ap (λ g. same (key g) k) e) ∙ or-false (same (key f) k) ∙ t)
 
-    pub live-wide : liveFrom k fs (i + 1) ≡ true → liveFrom k fs i ≡ true
+    live-wide : liveFrom k fs (i + 1) ≡ true → liveFrom k fs i ≡ true
     live-wide e = step ∙ rw e (or-true (same (key (getD fs i noFun)) k))
 
 -- who is among some is among more

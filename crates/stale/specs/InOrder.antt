@@ -71,6 +71,7 @@ not-live : (b : Bool) → not b ≡ true → b ≡ false
 not-live true e = sym e
 not-live false e = refl
 
+-- what the test stands for, and its two parts
 pub fits-fit : (live : List (List ℕ)) (last : Option (List ℕ)) (k : List ℕ) → fits live last (some k) ≡ true → Fit live last k
 fits-fit live last k e = ((not-live (among k live) (and-right (behind last k) (not (among k live)) e), and-left (behind last k) (not (among k live)) e), tt)
 

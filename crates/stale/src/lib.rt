@@ -2,24 +2,24 @@
 // Keys stay where they are, in the lines of the baseline. Where they never fall there, as in a file that update wrote, they are taken in one pass.
 ghost use mathlib.Core.Path.{_≡_};
 ghost use mathlib.Core.List.{List, [], _∷_, _++_, map};
-ghost use Prim.Native.Nat.{ℕ, _+_, _*_, _≤_, _<_};
+ghost use Prim.Native.Nat.{ℕ, _+_, _≤_, _<_};
 ghost use mathlib.Core.Bool.{true, false};
-ghost use lib.ListN.{length};
-ghost use Rattle.text_rules.specs.Bytes.{among, before, putAt};
+ghost use lib.ListN.{length, getD};
+ghost use Rattle.text_rules.specs.Bytes.{among, before, putAt, same};
 ghost use Rattle.text_rules.specs.Search.{part};
-ghost use Rattle.text_rules.specs.U32.{u32At};
 ghost use Rattle.text_rules.specs.Utf8.{isUtf8};
 ghost use Rattle.gate_rules.specs.Baseline.{entriesOfLines, entryOf};
 ghost use Rattle.gate_rules.specs.Check.{listed, spaced, stale};
-ghost use Rattle.gate_rules.specs.Functions.{key};
+ghost use Rattle.gate_rules.specs.Functions.{key, keyOf};
 ghost use Rattle.gate_rules.specs.Gate.{gate};
 ghost use Rattle.gate_rules.specs.Scan.{functionsOf};
-ghost use Rattle.functions.specs.Shown.{Lies, Stand, shown};
+ghost use Rattle.gate_rules.specs.Tree.{pathOf};
+ghost use Rattle.functions.specs.Shown.{Lies, Stand, noFun, shown};
 ghost use Rattle.baseline.specs.Ordered.{Unfalling, fallen, keysIn};
 ghost use Rattle.baseline.specs.Reads.{KeyInside, keyIn};
 ghost use Rattle.order.specs.Best.{Best};
 ghost use Rattle.stale.specs.InOrder.{Past, fits, repeats};
-ghost use Rattle.stale.specs.Live.{liveFrom};
+ghost use Rattle.stale.specs.Live.{SamePath, liveFrom};
 ghost use Rattle.stale.specs.Taken.{Fit, AllStand, ahead, behind, keyList, nextStale, staleIn};
 use baseline::Key;
 use functions::Function;
@@ -42,14 +42,59 @@ fn has_key(tree: &[u8], f: Function, bytes: &[u8]) -> bool
     baseline::is_key(bytes, &tree[path_at..path_end], &tree[name_at..name_end])
 }
 
-// The first of some functions that has the key, or the number behind them.
-fn find_key(tree: &[u8], lent: &[u8], n: usize, from: usize, to: usize, bytes: &[u8]) -> usize
-    requires { ⌜ AllStand (now tree) (now lent) n × (from ≤ to) × (to ≤ n) ⌝ }
+// The number of the file that holds a function.
+fn file_at(tree: &[u8], lent: &[u8], k: usize) -> u32
+    requires { ⌜ Stand (now tree) (now lent) × (k < length (functionsOf gate (now tree))) ⌝ }
+    ensures { λ r. ⌜ getD (functionsOf gate (now (tree .entry))) k noFun .path ≡ pathOf (now (tree .entry)) r ⌝ }
+{
+    words::get_u32(lent, k * records::RECORD_WIDTH)
+}
+
+// The first function behind one that stands in another file, or the number up to which is asked.
+fn file_end(tree: &[u8], lent: &[u8], n: usize, k: usize, to: usize) -> usize
+    requires { ⌜ AllStand (now tree) (now lent) n × (k < to) × (to ≤ n) ⌝ }
+    ensures { λ r. ⌜ (k < r) × (r ≤ to) × SamePath (functionsOf gate (now (tree .entry))) k r ⌝ }
+{
+    let file = file_at(tree, lent, k);
+    let mut end = k + 1;
+    while end < to {
+        if file_at(tree, lent, end) != file {
+            return end;
+        }
+        end += 1;
+    }
+    end
+}
+
+// Whether the key begins with the function's path and a tab. Where it does not, no function of the file has it.
+fn has_path(tree: &[u8], f: Function, bytes: &[u8]) -> bool
+    requires { ⌜ Lies (now tree) f ⌝ }
+    ensures { λ r. ⌜ (r ≡ false → (name : List ℕ) → same (now (bytes .entry)) (keyOf (shown (now (tree .entry)) f .path) name) ≡ false) ⌝ }
+{
+    let from = f.path_at;
+    let to = f.path_end;
+    let n = to - from;
+    if bytes.len() <= n {
+        return false;
+    }
+    if bytes[n] != b'\t' {
+        return false;
+    }
+    order::same_bytes(&bytes[..n], &tree[from..to])
+}
+
+// The first function of a file, from one number up to another, that has the key, or the number behind them.
+fn find_in_file(tree: &[u8], lent: &[u8], n: usize, from: usize, to: usize, bytes: &[u8]) -> usize
+    requires { ⌜ AllStand (now tree) (now lent) n × (from < to) × (to ≤ n) × SamePath (functionsOf gate (now tree)) from to ⌝ }
     ensures { λ r. ⌜
         (r < to → liveFrom (now (bytes .entry)) (functionsOf gate (now (tree .entry))) from ≡ true)
         × (to ≤ r → liveFrom (now (bytes .entry)) (functionsOf gate (now (tree .entry))) from ≡ liveFrom (now (bytes .entry)) (functionsOf gate (now (tree .entry))) to)
         ⌝ }
 {
+    let first = functions::function_at(tree, lent, from);
+    if !has_path(tree, first, bytes) {
+        return to;
+    }
     let mut k = from;
     while k < to {
         let f = functions::function_at(tree, lent, k);
@@ -61,12 +106,24 @@ fn find_key(tree: &[u8], lent: &[u8], n: usize, from: usize, to: usize, bytes: &
     k
 }
 
-// The number of the file that holds a function.
-fn file_at(tree: &[u8], lent: &[u8], k: usize) -> u32
-    requires { ⌜ Stand (now tree) (now lent) × (k < length (functionsOf gate (now tree))) ⌝ }
-    ensures { λ r. ⌜ r ≡ u32At (now (lent .entry)) (k * 32) ⌝ }
+// The first of some functions that has the key, or the number behind them. A file with another path is passed over by the numbers in its records.
+fn find_key(tree: &[u8], lent: &[u8], n: usize, from: usize, to: usize, bytes: &[u8]) -> usize
+    requires { ⌜ AllStand (now tree) (now lent) n × (from ≤ to) × (to ≤ n) ⌝ }
+    ensures { λ r. ⌜
+        (r < to → liveFrom (now (bytes .entry)) (functionsOf gate (now (tree .entry))) from ≡ true)
+        × (to ≤ r → liveFrom (now (bytes .entry)) (functionsOf gate (now (tree .entry))) from ≡ liveFrom (now (bytes .entry)) (functionsOf gate (now (tree .entry))) to)
+        ⌝ }
 {
-    words::get_u32(lent, k * records::RECORD_WIDTH)
+    let mut k = from;
+    while k < to {
+        let end = file_end(tree, lent, n, k, to);
+        let found = find_in_file(tree, lent, n, k, end, bytes);
+        if found < end {
+            return found;
+        }
+        k = end;
+    }
+    k
 }
 
 // The first function of the file that holds one.
@@ -265,10 +322,10 @@ fn is_next(
 }
 
 // A stale key, a place behind its line, and where the next search for a function begins.
-pub struct Next {
-    pub key: Key,
-    pub place: usize,
-    pub near: usize,
+struct Next {
+    key: Key,
+    place: usize,
+    near: usize,
 }
 
 // The first stale key behind the last one, where keys never fall. No key in front of the place is behind the last one, and none from there on before it.

@@ -3,6 +3,7 @@ use native.Mathlib.Omega.{arith}
 use denote.Ref.{now}
 use borrow.Author.Needs.{needs}
 use Rattle.functions.proofs.Read.{inside}
+use Rattle.stale.proofs.OneFile.{path-read}
 use Rattle.stale.proofs.file_at.Statement.{statement}
 use Rattle.stale.proofs.file_at.Tie as tie
 
@@ -17,5 +18,10 @@ get-u32-requires c κs =
     let p = c .before .before .pre in
     omega (arith, inside (now (a .tree)) (now (a .lent)) (p .0) (a .k) (p .1))
 
+returns : tie.Need-returns
+returns c =
+    let s = c .before .before .before in
+    path-read (now (s .args .tree)) (now (s .args .lent)) (s .pre .0) (s .args .k) (s .pre .1) (c .get-u32 .result) (c .get-u32 .ensures .0)
+
 pub file-at-spec : {M : Type 1} → statement M
-file-at-spec = tie.close (tie.spec mul-get-u32 get-u32-requires (λ c. search needs))
+file-at-spec = tie.close (tie.spec mul-get-u32 get-u32-requires returns)

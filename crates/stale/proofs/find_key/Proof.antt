@@ -1,4 +1,4 @@
--- `stale::find_key` meets its contract: none of the functions that were read has the key.
+-- `stale::find_key` meets its contract: no function of the files that were read has the key.
 use Prim.Native.Nat.{_≤_, _-_}
 use mathlib.Core.Path.{_≡_, refl, ap, sym, _∙_}
 use native.Mathlib.Omega.{arith}
@@ -7,7 +7,6 @@ use borrow.Author.Needs.{needs}
 use Rattle.gate_rules.specs.Gate.{gate}
 use Rattle.gate_rules.specs.Scan.{functionsOf}
 use Rattle.stale.specs.Live.{liveFrom}
-use Rattle.stale.proofs.Live.{live-here, live-later}
 use Rattle.stale.proofs.find_key.Statement.{statement}
 use Rattle.stale.proofs.find_key.Tie as tie
 
@@ -20,34 +19,31 @@ abbrev μ-loop : tie.MeasureT-loop
 loop-holds : tie.Need-loop-holds Inv-loop μ-loop
 loop-holds c = (c .before .before .before .pre .1, refl)
 
-function-at-requires : tie.Need-function-at-requires Inv-loop μ-loop
-function-at-requires c κs =
-    let s = c .before .before .before .before .before in
-    (s .pre .0 .stand, omega (arith, s .pre .0 .count, s .pre .2))
+file-end-requires : tie.Need-file-end-requires Inv-loop μ-loop
+file-end-requires c κs = let s = c .before .before .before .before .before in (s .pre .0, c .loop-test .taken, s .pre .2)
 
-has-key-requires : tie.Need-has-key-requires Inv-loop μ-loop
-has-key-requires c κs = c .function-at .ensures .1
+find-in-file-requires : tie.Need-find-in-file-requires Inv-loop μ-loop
+find-in-file-requires c κs =
+    let s = c .before .before .before .before .before .before in
+    let e = c .file-end .ensures in
+    (s .pre .0, e .0, omega (arith, e .1, s .pre .2), e .2)
 
 returns : tie.Need-returns Inv-loop μ-loop
 returns c =
-    let hk = c .before in
-    let fa = hk .before in
-    let l = fa .before .before in
-    let s = l .before .before .before .before in
-    let fs = functionsOf gate (now (s .args .tree)) in
-    let k = now (s .args .bytes) in
-    let here = live-here k fs (l .loop .k) (omega (arith, s .pre .0 .count, s .pre .2)) _ (fa .function-at .ensures .0) (sym (hk .has-key .ensures) ∙ c .if1 .taken) in
-    (λ h. sym (l .loop .inv .1) ∙ here, λ h. absurd (omega (arith, h, fa .before .loop-test .taken)))
+    let find = c .before in
+    let ends = find .before in
+    let l = ends .before .before in
+    (λ h. sym (l .loop .inv .1) ∙ find .find-in-file .ensures .0 (c .if1 .taken), λ h. absurd (omega (arith, h, c .if1 .taken, ends .file-end .ensures .1)))
+
+loop-less : tie.Need-loop-less Inv-loop μ-loop
+loop-less c = let e = c .before .before .file-end .ensures in omega (arith, e .0, e .1)
 
 loop-again : tie.Need-loop-again Inv-loop μ-loop
 loop-again c =
-    let hk = c .before in
-    let fa = hk .before in
-    let l = fa .before .before in
-    let s = l .before .before .before .before in
-    let fs = functionsOf gate (now (s .args .tree)) in
-    let k = now (s .args .bytes) in
-    (omega arith, sym (live-later k fs (l .loop .k) (omega (arith, s .pre .0 .count, s .pre .2)) _ (fa .function-at .ensures .0) (sym (hk .has-key .ensures) ∙ c .if1 .left)) ∙ l .loop .inv .1)
+    let find = c .before in
+    let ends = find .before in
+    let l = ends .before .before in
+    (ends .file-end .ensures .1, sym (find .find-in-file .ensures .1 (c .if1 .left)) ∙ l .loop .inv .1)
 
 returns-2 : tie.Need-returns-2 Inv-loop μ-loop
 returns-2 c =
@@ -59,4 +55,4 @@ returns-2 c =
 pub find-key-spec : {M : Type 1} → statement M
 find-key-spec =
     tie.close
-    (tie.spec Inv-loop μ-loop loop-holds function-at-requires has-key-requires returns (λ c. search needs) (λ c. search needs) loop-again returns-2)
+    (tie.spec Inv-loop μ-loop loop-holds file-end-requires find-in-file-requires returns loop-less loop-again returns-2)
