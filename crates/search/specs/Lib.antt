@@ -1,3 +1,4 @@
 -- A place as the code tells it, and what searches in vain tell.
+pub mod BodyLaws
 pub mod EndLaws
 pub mod Place

@@ -29,6 +29,12 @@ Absent x s from = (k : ℕ) → from ≤ k → getD s k 0 ≢ x
 abbrev pub Plain : ℕ → Type 0
 Plain b = (b ≢ braceOpen) × (b ≢ semicolon) × (b ≢ angleOpen) × (b ≢ angleClose) × (b ≢ squareOpen) × (b ≢ squareClose)
 
+-- the bytes from one place to another are plain: a search for a body passes them with the counts that it has
+pub record AllPlain (s : List ℕ) (from r : ℕ) : Type 0 where
+  pub further : from ≤ r
+  pub inside : r ≤ length s
+  pub passes : (angle opened closed : ℕ) → bodyAt angle opened closed from (drop from s) ≡ bodyAt angle opened closed r (drop r s)
+
 -- what a search for a partner meets: the partner, or a depth with which it goes on
 abbrev pub Meets : List ℕ → (opening closing from to depth : ℕ) → Met → Type 0
 Meets s opening closing from to depth (Partner p) = partner opening closing depth from (drop from s) ≡ some p

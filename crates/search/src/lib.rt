@@ -12,7 +12,7 @@ ghost use Rattle.text_rules.specs.Classes.{braceClose, braceOpen, isSpace, isWo
 ghost use Rattle.text_rules.specs.Search.{countAfter, find, run, startsWith};
 ghost use Rattle.source_rules.specs.Brackets.{partner};
 ghost use Rattle.source_rules.specs.Finding.{angleAfter, bodyAt, flat, isFn};
-ghost use Rattle.search.specs.Place.{Absent, Knows, Learned, Meets, Passed, Plain, Vain, placeOf};
+ghost use Rattle.search.specs.Place.{Absent, AllPlain, Knows, Learned, Meets, Passed, Plain, Vain, placeOf};
 
 // A place in a text, if there is one.
 pub enum Place {
@@ -268,6 +268,21 @@ fn is_plain(b: u8) -> bool
     b < b'{'
 }
 
+// The first byte from a place on that is not plain, or the end of the text.
+fn plain_end(s: &[u8], from: usize) -> usize
+    requires { ⌜ from ≤ length (now s) ⌝ }
+    ensures { λ r. ⌜ AllPlain (now (s .entry)) from r ⌝ }
+{
+    let mut at = from;
+    while at < s.len() {
+        if !is_plain(s[at]) {
+            return at;
+        }
+        at += 1;
+    }
+    at
+}
+
 // The brace that opens a body: the first one at angle and square depth 0, if no `;` stands there before it. A `;` inside, as in `[u8; 4]`,
 // ends nothing.
 fn body_open(s: &[u8], from: usize) -> Place
@@ -278,23 +293,23 @@ fn body_open(s: &[u8], from: usize) -> Place
     let mut closed: usize = 0;
     let mut at = from;
     while at < s.len() {
-        let b = s[at];
-        if is_plain(b) {
-            at += 1;
-        } else {
-            if is_flat(angle, opened, closed) {
-                if b == b'{' {
-                    return Place::At(at);
-                }
-                if b == b';' {
-                    return Place::Nowhere;
-                }
-            }
-            angle = angle_after(b, angle);
-            opened = count_after(b'[', b, opened);
-            closed = count_after(b']', b, closed);
-            at += 1;
+        at = plain_end(s, at);
+        if at == s.len() {
+            return Place::Nowhere;
         }
+        let b = s[at];
+        if is_flat(angle, opened, closed) {
+            if b == b'{' {
+                return Place::At(at);
+            }
+            if b == b';' {
+                return Place::Nowhere;
+            }
+        }
+        angle = angle_after(b, angle);
+        opened = count_after(b'[', b, opened);
+        closed = count_after(b']', b, closed);
+        at += 1;
     }
     Place::Nowhere
 }
