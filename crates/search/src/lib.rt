@@ -1,5 +1,5 @@
 // Searches in a blanked text: a byte, a bracket's partner, the brace that opens a body, the ends of white space and of a word, the word `fn`,
-// and the mark of test code. Each goes over the bytes once, from the place where it begins.
+// and the mark of test code. What a search in vain told is handed on, so that it is not made again.
 ghost use mathlib.Core.Path.{_≡_};
 ghost use mathlib.Core.Logic.{_≢_};
 ghost use mathlib.Core.Bool.{true};
