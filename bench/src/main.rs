@@ -169,9 +169,11 @@ fn rows(real: &Real) -> Vec<(Input<'_>, Call)> {
     for over in [false, true] {
         rows.extend(whole.iter().map(|&call| (Input::Tiny { over }, call)));
     }
-    rows.push((Input::Alive, Call::Check));
-    rows.push((Input::Stale, Call::Check));
-    for piece in ["fn a(", "fn a(){", "#[cfg(test)]{", "fn a(){{}"] {
+    for ordered in [true, false] {
+        rows.push((Input::Alive { ordered }, Call::Check));
+        rows.push((Input::Stale { ordered }, Call::Check));
+    }
+    for piece in ["fn a(", "fn a(){", "#[cfg(test)]{", "fn a(){{}", "fn a()["] {
         rows.push((Input::Unclosed(piece), Call::Scan));
     }
     rows

@@ -22,8 +22,14 @@ pub enum Input<'a> {
     Tiny {
         over: bool,
     },
-    Alive,
-    Stale,
+    /// lines for functions that are there, in update's order or in another
+    Alive {
+        ordered: bool,
+    },
+    /// lines for functions that are not there
+    Stale {
+        ordered: bool,
+    },
     Unclosed(&'a str),
 }
 
@@ -33,8 +39,8 @@ impl Input<'_> {
             Input::Real(_, size) => format!("real Rust, {} MB", *size as f64 / 1e6),
             Input::OneBody(_) => "real Rust in one body, 1 MB".to_string(),
             Input::Tiny { over } => format!("8,192 tiny functions, {} over", if *over { "all" } else { "none" }),
-            Input::Alive => "8,192 baseline lines, all alive".to_string(),
-            Input::Stale => "200,000 baseline lines, all stale".to_string(),
+            Input::Alive { ordered } => format!("8,192 baseline lines, all alive{}", order(*ordered)),
+            Input::Stale { ordered } => format!("200,000 baseline lines, all stale{}", order(*ordered)),
             Input::Unclosed(piece) => format!("`{piece}` to 128 KB"),
         }
     }
@@ -44,8 +50,8 @@ impl Input<'_> {
             Input::Real(files, size) => real(files, *size, divisor),
             Input::OneBody(files) => one_body(files, divisor),
             Input::Tiny { over } => tiny(*over, divisor),
-            Input::Alive => alive(divisor),
-            Input::Stale => stale(divisor),
+            Input::Alive { ordered } => alive(*ordered, divisor),
+            Input::Stale { ordered } => stale(*ordered, divisor),
             Input::Unclosed(piece) => unclosed(piece, divisor),
         };
         load.name.insert_str(0, &self.name());
@@ -125,22 +131,27 @@ fn tiny(over: bool, divisor: usize) -> Load {
     Load::new("", vec![("src/a.rs".to_string(), text)], Vec::new())
 }
 
-fn lines(count: usize) -> Vec<u8> {
-    let mut text = String::new();
-    for k in 0..count {
-        let _ = writeln!(text, "src/a.rs\tf{k}\t1\t1");
+fn order(ordered: bool) -> &'static str {
+    if ordered { "" } else { ", in another order" }
+}
+
+/// In update's order names rise byte by byte; else they rise by their numbers.
+fn lines(count: usize, ordered: bool) -> Vec<u8> {
+    let mut lines: Vec<String> = (0..count).map(|k| format!("src/a.rs\tf{k}\t1\t1\n")).collect();
+    if ordered {
+        lines.sort();
     }
-    text.into_bytes()
+    lines.concat().into_bytes()
 }
 
-fn alive(divisor: usize) -> Load {
+fn alive(ordered: bool, divisor: usize) -> Load {
     let load = tiny(true, divisor);
-    Load { baseline: lines(MAX_FUNCTIONS / divisor), ..load }
+    Load { baseline: lines(MAX_FUNCTIONS / divisor, ordered), ..load }
 }
 
-fn stale(divisor: usize) -> Load {
+fn stale(ordered: bool, divisor: usize) -> Load {
     let files = vec![("src/b.rs".to_string(), "fn a() {}\n".to_string())];
-    Load::new("", files, lines(200_000 / divisor))
+    Load::new("", files, lines(200_000 / divisor, ordered))
 }
 
 /// One signature or body after another that never closes.
