@@ -1,0 +1,62 @@
+// Sixteen bytes of a text, asked at once: the compiler makes a few instructions of each loop here, so a text is passed over by blocks as long as
+// nothing begins in them.
+ghost use mathlib.Core.Path.{_≡_};
+ghost use mathlib.Core.Bool.{true};
+ghost use Prim.Native.Nat.{_+_, _≤_};
+ghost use lib.ListN.{length};
+ghost use Rattle.blocks.specs.Blocks.{Below, Lacks, countFrom};
+
+// The bytes of a block.
+pub const WIDTH: usize = 16;
+
+// Whether no byte of the block at a place is `x`.
+pub fn lacks(s: &[u8], at: usize, x: u8) -> bool
+    requires { ⌜ at + 16 ≤ length (now s) ⌝ }
+    ensures { λ r. ⌜ (r ≡ true → Lacks x (now (s .entry)) at 16) ⌝ }
+{
+    let mut none = true;
+    let mut i: usize = 0;
+    while i < WIDTH {
+        if s[at + i] == x {
+            none = false;
+        }
+        i += 1;
+    }
+    none
+}
+
+fn larger(a: u8, b: u8) -> u8
+    ensures { λ r. ⌜ (a ≤ r) × (b ≤ r) ⌝ }
+{
+    if a < b { b } else { a }
+}
+
+// Whether the block at a place is ASCII. The largest byte tells.
+pub fn is_ascii(s: &[u8], at: usize) -> bool
+    requires { ⌜ at + 16 ≤ length (now s) ⌝ }
+    ensures { λ r. ⌜ (r ≡ true → Below 128 (now (s .entry)) at 16) ⌝ }
+{
+    let mut most: u8 = 0;
+    let mut i: usize = 0;
+    while i < WIDTH {
+        most = larger(most, s[at + i]);
+        i += 1;
+    }
+    most < 128
+}
+
+// How many bytes of the block at a place are `x`.
+pub fn count(s: &[u8], at: usize, x: u8) -> usize
+    requires { ⌜ at + 16 ≤ length (now s) ⌝ }
+    ensures { λ r. ⌜ (r ≡ countFrom x (now (s .entry)) at 16) × (r ≤ 16) ⌝ }
+{
+    let mut n: u8 = 0;
+    let mut i: usize = 0;
+    while i < WIDTH {
+        if s[at + i] == x {
+            n += 1;
+        }
+        i += 1;
+    }
+    n as usize
+}
