@@ -169,12 +169,17 @@ fn rows(real: &Real) -> Vec<(Input<'_>, Call)> {
     for over in [false, true] {
         rows.extend(whole.iter().map(|&call| (Input::Tiny { over }, call)));
     }
+    rows.extend(whole.iter().map(|&call| (Input::Files { renamed: false }, call)));
+    rows.push((Input::Files { renamed: true }, Call::Check));
     for ordered in [true, false] {
         rows.push((Input::Alive { ordered }, Call::Check));
         rows.push((Input::Stale { ordered }, Call::Check));
     }
-    for piece in ["fn a(", "fn a(){", "#[cfg(test)]{", "fn a(){{}", "fn a()["] {
+    for piece in ["fn a(", "fn a(){", "#[cfg(test)]{", "fn a(){{}", "fn a()[", "fn a()<"] {
         rows.push((Input::Unclosed(piece), Call::Scan));
+    }
+    for (front, back) in [("fn a(", ")"), ("[", "fn a()]")] {
+        rows.push((Input::Nested(front, back), Call::Scan));
     }
     rows
 }

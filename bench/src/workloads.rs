@@ -22,6 +22,10 @@ pub enum Input<'a> {
     Tiny {
         over: bool,
     },
+    /// 1,024 files of eight functions, all over, against update's baseline of them or of the same files in another folder
+    Files {
+        renamed: bool,
+    },
     /// lines for functions that are there, in update's order or in another
     Alive {
         ordered: bool,
@@ -31,6 +35,8 @@ pub enum Input<'a> {
         ordered: bool,
     },
     Unclosed(&'a str),
+    /// so many of the first and then as many of the second: signatures without a body inside brackets that close
+    Nested(&'a str, &'a str),
 }
 
 impl Input<'_> {
@@ -39,9 +45,11 @@ impl Input<'_> {
             Input::Real(_, size) => format!("real Rust, {} MB", *size as f64 / 1e6),
             Input::OneBody(_) => "real Rust in one body, 1 MB".to_string(),
             Input::Tiny { over } => format!("8,192 tiny functions, {} over", if *over { "all" } else { "none" }),
+            Input::Files { renamed } => format!("1,024 files of eight functions, all over{}", if *renamed { ", folder renamed" } else { "" }),
             Input::Alive { ordered } => format!("8,192 baseline lines, all alive{}", order(*ordered)),
             Input::Stale { ordered } => format!("200,000 baseline lines, all stale{}", order(*ordered)),
             Input::Unclosed(piece) => format!("`{piece}` to 128 KB"),
+            Input::Nested(front, back) => format!("`{front}` and as many `{back}`, 128 KB"),
         }
     }
 
@@ -50,9 +58,11 @@ impl Input<'_> {
             Input::Real(files, size) => real(files, *size, divisor),
             Input::OneBody(files) => one_body(files, divisor),
             Input::Tiny { over } => tiny(*over, divisor),
+            Input::Files { renamed } => files(*renamed, divisor),
             Input::Alive { ordered } => alive(*ordered, divisor),
             Input::Stale { ordered } => stale(*ordered, divisor),
             Input::Unclosed(piece) => unclosed(piece, divisor),
+            Input::Nested(front, back) => nested(front, back, divisor),
         };
         load.name.insert_str(0, &self.name());
         load
@@ -131,6 +141,17 @@ fn tiny(over: bool, divisor: usize) -> Load {
     Load::new("", vec![("src/a.rs".to_string(), text)], Vec::new())
 }
 
+/// As many files as there may be, with as many functions as there may be.
+fn files(renamed: bool, divisor: usize) -> Load {
+    let text: String = (0..8).map(|k| format!("fn f{k}(){{{{{{{{{{{{}}}}}}}}}}}}\n")).collect();
+    let under = |folder: &str| -> Vec<(String, String)> {
+        (0..MAX_FUNCTIONS / 8 / divisor).map(|k| (format!("{folder}/f{k:04}.rs"), text.clone())).collect()
+    };
+    let listed = under(if renamed { "source" } else { "src" });
+    let funs: Vec<oracle::Fun> = listed.iter().flat_map(|(p, t)| oracle::scan(p, t)).collect();
+    Load::new("", under("src"), original::update_text(&funs).0)
+}
+
 fn order(ordered: bool) -> &'static str {
     if ordered { "" } else { ", in another order" }
 }
@@ -157,5 +178,12 @@ fn stale(ordered: bool, divisor: usize) -> Load {
 /// One signature or body after another that never closes.
 fn unclosed(piece: &str, divisor: usize) -> Load {
     let text = piece.repeat(128 * 1024 / piece.len() / divisor);
+    Load::new("", vec![("src/a.rs".to_string(), text)], Vec::new())
+}
+
+/// Signatures in each other's brackets, and a `;` behind them.
+fn nested(front: &str, back: &str, divisor: usize) -> Load {
+    let deep = 128 * 1024 / (front.len() + back.len()) / divisor;
+    let text = format!("{}{};", front.repeat(deep), back.repeat(deep));
     Load::new("", vec![("src/a.rs".to_string(), text)], Vec::new())
 }
