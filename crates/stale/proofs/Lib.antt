@@ -1,6 +1,4 @@
 -- The laws that the functions cite.
-mod Live
-mod OneFile
 mod OneMore
 mod Lines
 mod Taking

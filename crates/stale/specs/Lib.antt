@@ -1,3 +1,2 @@
 pub mod Taken
 pub mod InOrder
-pub mod Live

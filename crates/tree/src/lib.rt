@@ -102,7 +102,7 @@ fn order(b: u8) -> u32
 }
 
 // The first path stands before the second.
-fn path_before(p: &[u8], q: &[u8]) -> bool
+pub fn path_before(p: &[u8], q: &[u8]) -> bool
     ensures { λ r. ⌜ r ≡ pathBefore (now (p .entry)) (now (q .entry)) ⌝ }
 {
     let mut i = 0;

@@ -53,15 +53,14 @@ part-is-live-end c =
 
 returns-2 : tie.Need-returns-2
 returns-2 c =
-    let asked = c .before in
-    let no = asked .before .before in
+    let no = c .before .before in
     let b = no .before in
     let h = b .before .before in
     let s = h .before .before .before .before .before in
     let a = s .args in
     let lines = now (a .lines) in
     let live = map key (functionsOf gate (now (a .tree))) in
-    ap not (asked .is-live .ensures)
+    ap not (c .is-live .ensures)
     ∙ fits-rest live (keyIn lines (a .last)) _ (other-behind (keyIn lines (a .last)) _ (sym (ap (λ k. fallen (keyIn lines (a .last)) (keyIn lines k)) (h .here .given .1)) ∙ s .pre .3) (sym (b .is-last .ensures) ∙ no .if1 .left))
     ∙ sym (ap (λ k. fits live (keyIn lines (a .last)) (keyIn lines k)) (h .here .given .1))
 
@@ -75,5 +74,4 @@ returns-3 c =
 pub is-next-spec : {M : Type 1} → statement M
 is-next-spec =
     tie.close
-    (tie.spec (λ c. search needs) is-last-requires returns sub-is-live part-is-live-start part-is-live-end (λ c κs. search needs) (λ c. search needs)
-    returns-2 returns-3)
+    (tie.spec (λ c. search needs) is-last-requires returns sub-is-live part-is-live-start part-is-live-end (λ c κs. search needs) (λ c. search needs) returns-2 returns-3)

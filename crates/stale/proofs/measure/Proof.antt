@@ -18,13 +18,13 @@ use Rattle.stale.proofs.measure.Statement.{statement}
 use Rattle.stale.proofs.measure.Tie as tie
 
 abbrev Inv-loop : tie.InvT-loop
-Inv-loop tree lent n lines ordered last₀ place₀ near₀ count₀ bytes₀ last place near count bytes =
+Inv-loop tree lent n lines ordered last₀ place₀ count₀ bytes₀ last place count bytes =
     TakenTo (entriesOfLines lines) (functionsOf gate tree) lines last count
     × (bytes ≡ length (keyLines (take count (staleIn tree lines))))
     × (ordered ≡ true → Past lines (keyIn lines last) place)
 
 abbrev μ-loop : tie.MeasureT-loop
-μ-loop tree lent n lines ordered last₀ place₀ near₀ count₀ bytes₀ last place near count bytes = length (staleIn tree lines) - count
+μ-loop tree lent n lines ordered last₀ place₀ count₀ bytes₀ last place count bytes = length (staleIn tree lines) - count
 
 loop-holds : tie.Need-loop-holds Inv-loop μ-loop
 unfolding listed

@@ -17,11 +17,11 @@ use Rattle.stale.proofs.next_in_order.Statement.{statement}
 use Rattle.stale.proofs.next_in_order.Tie as tie
 
 abbrev Inv-loop : tie.InvT-loop
-Inv-loop tree lent n lines last place near from₀ close₀ from close =
+Inv-loop tree lent n lines last place from₀ from =
     Upto (functionsOf gate tree) (keyIn lines last) lines Nothing from × NoneAhead (keyIn lines last) (keysIn (drop from lines))
 
 abbrev μ-loop : tie.MeasureT-loop
-μ-loop tree lent n lines last place near from₀ close₀ from close = length lines - from
+μ-loop tree lent n lines last place from₀ from = length lines - from
 
 loop-holds : tie.Need-loop-holds Inv-loop μ-loop
 loop-holds c = let s = c .before .before .before in (turn-start _ _ _ (s .args .place) (s .pre .3), s .pre .3 .none-ahead)

@@ -24,7 +24,7 @@ use Rattle.stale.proofs.put_all.Statement.{statement}
 use Rattle.stale.proofs.put_all.Tie as tie
 
 abbrev Inv-loop : tie.InvT-loop
-Inv-loop tree lent n lines ordered count out₀ at last₀ place₀ near₀ done₀ k₀ out last place near done k =
+Inv-loop tree lent n lines ordered count out₀ at last₀ place₀ done₀ k₀ out last place done k =
     TakenTo (entriesOfLines lines) (functionsOf gate tree) lines last k
     × (done ≡ at + length (keyLines (take k (staleIn tree lines))))
     × (out ≡ putAt at (keyLines (take k (staleIn tree lines))) out₀)
@@ -32,7 +32,7 @@ Inv-loop tree lent n lines ordered count out₀ at last₀ place₀ near₀ done
     × (ordered ≡ true → Past lines (keyIn lines last) place)
 
 abbrev μ-loop : tie.MeasureT-loop
-μ-loop tree lent n lines ordered count out₀ at last₀ place₀ near₀ done₀ k₀ out last place near done k = count - k
+μ-loop tree lent n lines ordered count out₀ at last₀ place₀ done₀ k₀ out last place done k = count - k
 
 loop-holds : tie.Need-loop-holds Inv-loop μ-loop
 unfolding listed

@@ -1,0 +1,3 @@
+pub mod PathOrder
+pub mod Live
+pub mod Decided

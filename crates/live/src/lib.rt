@@ -1,0 +1,120 @@
+// Whether a function of a scanned tree has a key. Functions stand in the order of their paths, so those that may have it are found by halves.
+ghost use mathlib.Core.Path.{_≡_};
+ghost use mathlib.Core.Bool.{true, false};
+ghost use mathlib.Core.List.{map};
+ghost use Prim.Native.Nat.{ℕ, _≤_, _<_};
+ghost use lib.ListN.{length, getD};
+ghost use Rattle.text_rules.specs.Bytes.{among, same};
+ghost use Rattle.gate_rules.specs.Functions.{key};
+ghost use Rattle.gate_rules.specs.Gate.{gate};
+ghost use Rattle.gate_rules.specs.Scan.{functionsOf};
+ghost use Rattle.gate_rules.specs.Tree.{pathBefore};
+ghost use Rattle.functions.specs.Shown.{Lies, Stand, noFun, shown};
+ghost use Rattle.live.specs.Live.{NoneHas};
+use functions::Function;
+
+// Whether the path of the function k stands before a path.
+fn stands_before(tree: &[u8], lent: &[u8], k: usize, path: &[u8]) -> bool
+    requires { ⌜ Stand (now tree) (now lent) × (k < length (functionsOf gate (now tree))) ⌝ }
+    ensures { λ r. ⌜ r ≡ pathBefore (getD (functionsOf gate (now (tree .entry))) k noFun .path) (now (path .entry)) ⌝ }
+{
+    let f = functions::function_at(tree, lent, k);
+    let from = f.path_at;
+    let to = f.path_end;
+    tree::path_before(&tree[from..to], path)
+}
+
+// Whether the path of the function k stands behind a path.
+fn stands_behind(tree: &[u8], lent: &[u8], k: usize, path: &[u8]) -> bool
+    requires { ⌜ Stand (now tree) (now lent) × (k < length (functionsOf gate (now tree))) ⌝ }
+    ensures { λ r. ⌜ r ≡ pathBefore (now (path .entry)) (getD (functionsOf gate (now (tree .entry))) k noFun .path) ⌝ }
+{
+    let f = functions::function_at(tree, lent, k);
+    let from = f.path_at;
+    let to = f.path_end;
+    tree::path_before(path, &tree[from..to])
+}
+
+// A number such that the functions in front of it have paths that stand before the path.
+fn first_from(tree: &[u8], lent: &[u8], n: usize, path: &[u8]) -> usize
+    requires { ⌜ Stand (now tree) (now lent) × (n ≡ length (functionsOf gate (now tree))) ⌝ }
+    ensures { λ r. ⌜
+        (r ≤ n)
+        × ((i : ℕ) → i < r → pathBefore (getD (functionsOf gate (now (tree .entry))) i noFun .path) (now (path .entry)) ≡ true)
+        ⌝ }
+{
+    let mut lo: usize = 0;
+    let mut hi = n;
+    while lo < hi {
+        let middle = lo + (hi - lo) / 2;
+        if stands_before(tree, lent, middle, path) {
+            lo = middle + 1;
+        } else {
+            hi = middle;
+        }
+    }
+    lo
+}
+
+// A number such that the functions from it on have paths that stand behind the path.
+fn first_behind(tree: &[u8], lent: &[u8], n: usize, path: &[u8]) -> usize
+    requires { ⌜ Stand (now tree) (now lent) × (n ≡ length (functionsOf gate (now tree))) ⌝ }
+    ensures { λ r. ⌜
+        (r ≤ n)
+        × ((i : ℕ) → r ≤ i → i < n → pathBefore (now (path .entry)) (getD (functionsOf gate (now (tree .entry))) i noFun .path) ≡ true)
+        ⌝ }
+{
+    let mut lo: usize = 0;
+    let mut hi = n;
+    while lo < hi {
+        let middle = lo + (hi - lo) / 2;
+        if stands_behind(tree, lent, middle, path) {
+            hi = middle;
+        } else {
+            lo = middle + 1;
+        }
+    }
+    hi
+}
+
+// Whether the function has the key.
+fn has_key(tree: &[u8], f: Function, bytes: &[u8]) -> bool
+    requires { ⌜ Lies (now tree) f ⌝ }
+    ensures { λ r. ⌜ r ≡ same (now (bytes .entry)) (key (shown (now (tree .entry)) f)) ⌝ }
+{
+    let path_at = f.path_at;
+    let path_end = f.path_end;
+    let name_at = f.name_at;
+    let name_end = f.name_end;
+    baseline::is_key(bytes, &tree[path_at..path_end], &tree[name_at..name_end])
+}
+
+// Whether one of the functions from one number up to another has the key.
+fn any_has(tree: &[u8], lent: &[u8], n: usize, from: usize, to: usize, bytes: &[u8]) -> bool
+    requires { ⌜ Stand (now tree) (now lent) × (n ≡ length (functionsOf gate (now tree))) × (to ≤ n) ⌝ }
+    ensures { λ r. ⌜
+        (r ≡ true → among (now (bytes .entry)) (map key (functionsOf gate (now (tree .entry)))) ≡ true)
+        × (r ≡ false → NoneHas (now (bytes .entry)) (functionsOf gate (now (tree .entry))) from to)
+        ⌝ }
+{
+    let mut k = from;
+    while k < to {
+        let f = functions::function_at(tree, lent, k);
+        if has_key(tree, f, bytes) {
+            return true;
+        }
+        k += 1;
+    }
+    false
+}
+
+// Whether a function of the tree has the key. What stands before its first tab is the path.
+pub fn is_live(tree: &[u8], lent: &[u8], n: usize, bytes: &[u8]) -> bool
+    requires { ⌜ Stand (now tree) (now lent) × (n ≡ length (functionsOf gate (now tree))) ⌝ }
+    ensures { λ r. ⌜ r ≡ among (now (bytes .entry)) (map key (functionsOf gate (now (tree .entry)))) ⌝ }
+{
+    let end = baseline::field_end(bytes, 0);
+    let from = first_from(tree, lent, n, &bytes[..end]);
+    let to = first_behind(tree, lent, n, &bytes[..end]);
+    any_has(tree, lent, n, from, to, bytes)
+}
