@@ -1,12 +1,13 @@
 -- `search::is_lost` meets its contract: each of its tests is one of the cases.
 use mathlib.Core.Logic.{inl, inr}
+use native.Mathlib.Omega.{arith}
 use borrow.Author.Needs.{needs}
 use borrow.Author.Tests.{ltb-true}
 use Rattle.search.proofs.is_lost.Statement.{statement}
 use Rattle.search.proofs.is_lost.Tie as tie
 
 returns : tie.Need-returns
-returns c = λ e. inl (c .if1 .taken)
+returns c = λ e. inl (omega arith)
 
 returns-2 : tie.Need-returns-2
 returns-2 c = λ e. inr (inl (ltb-true _ _ e))
