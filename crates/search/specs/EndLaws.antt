@@ -14,7 +14,7 @@ use Rattle.text_rules.specs.BytesLaws.{whether}
 use Rattle.source_rules.specs.Brackets.{depthAfter, partner}
 use Rattle.search.specs.Place.{Absent}
 
--- a place that was found was found
+-- a place is not none
 pub none-some : (n : ℕ) → _≡_ (some n) none → ⊥
 none-some n e = let z : _≡_ {A = ℕ} 0 1 = cc in absurd (omega arith)
 

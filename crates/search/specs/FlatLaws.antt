@@ -1,5 +1,5 @@
--- Searches for a body that have more brackets open, or more closed that were never opened, than the rest of the text sets right.
-use Prim.Native.Nat.{ℕ, suc, zero, pred, _+_, _-_, _<_}
+-- A search for a body that has more brackets open than the rest of the text closes, or more closed that were never opened than it opens, finds none.
+use Prim.Native.Nat.{ℕ, suc, zero, pred, _-_, _<_}
 use mathlib.Core.Path.{_≡_, refl, sym, _∙_}
 use mathlib.Core.Logic.{_≢_, inl, inr}
 use mathlib.Core.Bool.{true, false, _&&_, and-false}
@@ -17,8 +17,8 @@ use Rattle.search.specs.EndLaws.{none-some}
 use Rattle.search.specs.Place.{Lost}
 use Rattle.search.specs.declared.Unflat.{Unflat}
 
--- `lead` counts what has to be set right before a search is flat. While brackets of one kind with as many open inside them have no partner,
--- it stays above their depth
+-- `lead` is how many brackets of one kind a search lacks until it is at depth 0. Where a bracket with fewer open inside it has no partner, the
+-- search lacks some to the end of the text
 module _ (opening closing : ℕ) (lead : (angle opened closed : ℕ) → ℕ)
     (raised : (angle opened closed : ℕ) → 0 < lead angle opened closed → flat angle opened closed ≡ false)
     (kept : (b d angle opened closed : ℕ) → d < lead angle opened closed → (eqb b closing && eqb d 0) ≡ false
@@ -44,7 +44,7 @@ pred-less zero n z h = absurd (omega arith)
 pred-less (suc d) zero z h = absurd (omega arith)
 pred-less (suc d) (suc n) z h = omega arith
 
--- a search with more angle brackets open than are closed
+-- angle brackets
 angle-raised : (angle opened closed : ℕ) → 0 < angle → flat angle opened closed ≡ false
 unfolding flat
 angle-raised angle opened closed h = rw (ne-eqb angle 0 (λ e. omega arith))
@@ -64,7 +64,7 @@ pred-minus : (d more less : ℕ) → 0 < d → d < more - less → pred d < more
 pred-minus zero more less z h = absurd (omega arith)
 pred-minus (suc d) more less z h = omega arith
 
--- a search with more square brackets of one kind than of the other, `x` and `y`: the others are too few
+-- square brackets, of which there are more `x` than `y`
 module _ (x y : ℕ) (apart : x ≢ y) where
   square-kept : (b d more less : ℕ) → d < more - less → (eqb b y && eqb d 0) ≡ false → depthAfter x y b d < countAfter x b more - countAfter y b less
   unfolding depthAfter countAfter
@@ -94,7 +94,7 @@ squares-crossed =
     (λ angle opened closed h. squares-raised angle opened closed (λ e. omega arith))
     (λ b d angle opened closed. square-kept squareClose squareOpen (λ e. omega arith) b d closed opened)
 
--- a search with counts that are not set right any more
+-- counts that never come to depth 0
 pub lost : (u : Unflat) (t : List ℕ) → partner angleOpen angleClose (u .angles) (u .at) t ≡ none → partner squareOpen squareClose (u .squares) (u .at) t ≡ none
     → partner squareClose squareOpen (u .crossed) (u .at) t ≡ none → (angle opened closed : ℕ) → Lost u angle opened closed → bodyAt angle opened closed (u .at) t ≡ none
 lost u t a o c angle opened closed (inl h) = angles-open t (u .angles) (u .at) angle opened closed a h

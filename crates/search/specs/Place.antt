@@ -50,13 +50,13 @@ pub record Knows (opening closing : ℕ) (s : List ℕ) (u : Unclosed) : Type 0 
   pub none-there : partner opening closing (u .depth) (u .at) (drop (u .at) s) ≡ none
   pub inside : u .at ≤ length s
 
--- a search that has these counts at a place has passed as many bytes, so that they can be counted on
+-- counts that are at most the place, so that they can be counted on
 pub record Counted (n : Counts) (at : ℕ) : Type 0 where
   pub angle-most : n .angle ≤ at
   pub opened-most : n .opened ≤ at
   pub closed-most : n .closed ≤ at
 
--- the brace that a search finds which has these counts at a place
+-- the brace that a search with these counts at a place finds
 abbrev pub bodyFrom : List ℕ → (from : ℕ) → Counts → Option ℕ
 bodyFrom s from n = bodyAt (n .angle) (n .opened) (n .closed) from (drop from s)
 

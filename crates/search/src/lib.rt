@@ -268,7 +268,7 @@ fn is_plain(b: u8) -> bool
     b < b'{'
 }
 
-// The first byte from one place up to another that is not plain, or the place where it ends.
+// The first byte from one place up to another that is not plain, or that other place.
 fn plain_end(s: &[u8], from: usize, to: usize) -> usize
     requires { ⌜ (from ≤ to) × (to ≤ length (now s)) ⌝ }
     ensures { λ r. ⌜ AllPlain (now (s .entry)) from r × (r ≤ to) ⌝ }
