@@ -1,5 +1,6 @@
 -- A search for a body that has more brackets open than the rest of the text closes, or more closed that were never opened than it opens, finds none.
-use Prim.Native.Nat.{ℕ, suc, zero, pred, _-_, _<_}
+-- So does one behind the last brace.
+use Prim.Native.Nat.{ℕ, suc, zero, pred, _+_, _-_, _≤_, _<_}
 use mathlib.Core.Path.{_≡_, refl, sym, _∙_}
 use mathlib.Core.Logic.{_≢_, inl, inr}
 use mathlib.Core.Bool.{true, false, _&&_, and-false}
@@ -8,14 +9,32 @@ use mathlib.Core.Option.{none}
 use native.Mathlib.Omega.{arith}
 use borrow.Author.Tests.{eqb-true, ne-eqb}
 use lib.Dec.{eqb}
+use lib.ListN.{drop, getD}
+use lib.Seq.{getD-drop}
 use Rattle.text_rules.specs.BytesLaws.{true-false, whether}
-use Rattle.text_rules.specs.Classes.{angleClose, angleOpen, squareClose, squareOpen}
+use Rattle.text_rules.specs.Classes.{angleClose, angleOpen, braceOpen, semicolon, squareClose, squareOpen}
 use Rattle.text_rules.specs.Search.{countAfter}
 use Rattle.source_rules.specs.Brackets.{depthAfter, partner}
 use Rattle.source_rules.specs.Finding.{angleAfter, bodyAt, flat}
 use Rattle.search.specs.EndLaws.{none-some}
-use Rattle.search.specs.Place.{Lost}
+use Rattle.search.specs.Place.{Absent, Lost}
 use Rattle.search.specs.declared.Unflat.{Unflat}
+
+none-opens : (t : List ℕ) (angle opened closed at : ℕ) → ((k : ℕ) → getD t k 0 ≢ braceOpen) → bodyAt angle opened closed at t ≡ none
+unfolding bodyAt
+none-opens [] angle opened closed at h = refl
+none-opens (b ∷ t) angle opened closed at h =
+    rw (ne-eqb b braceOpen (h 0), and-false (flat angle opened closed))
+    (elim (whether (flat angle opened closed && eqb b semicolon)) [
+      | inl k ↦ rw k
+      | inr k ↦ rw k (none-opens t (angleAfter b angle) (countAfter squareOpen b opened) (countAfter squareClose b closed) (suc at) (λ i. h (suc i)))
+    ])
+
+-- behind the last brace there is no body
+pub no-body : (s : List ℕ) (last from angle opened closed : ℕ) → Absent braceOpen s last → last ≤ from → bodyAt angle opened closed from (drop from s) ≡ none
+unfolding Absent
+no-body s last from angle opened closed h i =
+    none-opens (drop from s) angle opened closed from (λ k e. h (from + k) (omega arith) (sym (getD-drop from s k 0) ∙ e))
 
 -- `lead` is how many brackets of one kind a search lacks until it is at depth 0. Where a bracket with fewer open inside it has no partner, the
 -- search lacks some to the end of the text

@@ -72,6 +72,7 @@ Lost u angle opened closed = (u .angles < angle) ⊎ ((u .squares < opened - clo
 
 -- what is known of searches for a body
 pub record KnowsUnflat (s : List ℕ) (u : Unflat) : Type 0 where
+  pub no-brace : Absent braceOpen s (u .last)
   pub none-there : (angle opened closed : ℕ) → Lost u angle opened closed → bodyAt angle opened closed (u .at) (drop (u .at) s) ≡ none
   pub inside : u .at ≤ length s
 

@@ -337,9 +337,10 @@ fn body_before(s: &[u8], from: usize, to: usize, n: Counts) -> Reached
     })
 }
 
-// What is known of searches for a body at a place: one that has more angle brackets open there than `angles`, more square ones open than
-// `squares`, or more square ones closed that were never opened than `crossed`, finds none.
+// What is known of searches for a body: no brace stands from `last` on, and one that has more angle brackets open at the place `at` than `angles`,
+// more square ones open than `squares`, or more square ones closed that were never opened than `crossed`, finds none.
 pub struct Unflat {
+    pub last: usize,
     pub at: usize,
     pub angles: usize,
     pub squares: usize,
@@ -372,6 +373,7 @@ fn unflat_further(s: &[u8], from: usize, u: Unflat) -> Unflat
         }
     }
     Unflat {
+        last: u.last,
         at,
         angles: closings(s, b'<', b'>', at),
         squares: closings(s, b'[', b']', at),
@@ -412,6 +414,12 @@ fn body_open(s: &[u8], from: usize, u: Unflat) -> Opened
     requires { ⌜ (from ≤ length (now s)) × KnowsUnflat (now s) u ⌝ }
     ensures { λ r. ⌜ (placeOf (r .place) ≡ bodyAt 0 0 0 from (drop from (now (s .entry)))) × KnowsUnflat (now (s .entry)) (r .flats) ⌝ }
 {
+    if u.last <= from {
+        return Opened {
+            place: Place::Nowhere,
+            flats: u,
+        };
+    }
     let nothing = Counts {
         angle: 0,
         opened: 0,
@@ -472,6 +480,7 @@ pub fn nothing_learnt(s: &[u8]) -> Learnt
             closed: 0,
         },
         flats: Unflat {
+            last: behind_last(s, b'{'),
             at: s.len(),
             angles: 0,
             squares: 0,

@@ -1,4 +1,4 @@
--- `search::nothing_learnt` meets its contract: of bodies nothing is known, but that at the end of the text there is none.
+-- `search::nothing_learnt` meets its contract: of bodies nothing is known, but that behind the last brace there is none.
 use mathlib.Core.Path.{refl}
 use mathlib.Core.Bool.{false}
 use native.Mathlib.Omega.{arith}
@@ -14,8 +14,8 @@ returns c =
       vain = record { none-there = λ e. absurd (true-false false e refl); angle-most = omega arith; opened-most = omega arith; closed-most = omega arith };
       rounds-known = c .before .known-first .ensures;
       braces-known = c .known-first2 .ensures;
-      flats-known = record { none-there = λ angle opened closed h. body-end _ _ (omega arith) angle opened closed; inside = omega arith };
+      flats-known = record { no-brace = c .before .before .behind-last .ensures .0; none-there = λ angle opened closed h. body-end _ _ (omega arith) angle opened closed; inside = omega arith };
     }
 
 pub nothing-learnt-spec : {M : Type 1} → statement M
-nothing-learnt-spec = tie.close (tie.spec (λ c κs. search needs) (λ c κs. search needs) returns)
+nothing-learnt-spec = tie.close (tie.spec (λ c κs. search needs) (λ c κs. search needs) (λ c κs. search needs) returns)
