@@ -181,9 +181,9 @@ fn unclosed(piece: &str, divisor: usize) -> Load {
     Load::new("", vec![("src/a.rs".to_string(), text)], Vec::new())
 }
 
-/// Signatures in each other's brackets, and a `;` behind them.
+/// Signatures in each other's brackets, and a `;` and a function behind them.
 fn nested(front: &str, back: &str, divisor: usize) -> Load {
     let deep = 128 * 1024 / (front.len() + back.len()) / divisor;
-    let text = format!("{}{};", front.repeat(deep), back.repeat(deep));
+    let text = format!("{}{};fn b(){{}}", front.repeat(deep), back.repeat(deep));
     Load::new("", vec![("src/a.rs".to_string(), text)], Vec::new())
 }

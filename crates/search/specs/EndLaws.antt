@@ -14,6 +14,10 @@ use Rattle.text_rules.specs.BytesLaws.{whether}
 use Rattle.source_rules.specs.Brackets.{depthAfter, partner}
 use Rattle.search.specs.Place.{Absent}
 
+-- a place is not none
+pub none-some : (n : ℕ) → _≡_ (some n) none → ⊥
+none-some n e = let z : _≡_ {A = ℕ} 0 1 = cc in absurd (omega arith)
+
 module _ (opening closing : ℕ) where
   none-closes : (t : List ℕ) (depth at : ℕ) → ((k : ℕ) → getD t k 0 ≢ closing) → partner opening closing depth at t ≡ none
   unfolding partner
@@ -25,9 +29,6 @@ module _ (opening closing : ℕ) where
   unfolding Absent
   no-partner s last from depth h i =
       none-closes (drop from s) depth from (λ k e. h (from + k) (omega arith) (sym (getD-drop from s k 0) ∙ e))
-
-  none-some : (n : ℕ) → _≡_ (some n) none → ⊥
-  none-some n e = let z : _≡_ {A = ℕ} 0 1 = cc in absurd (omega arith)
 
   pred-more : (m d : ℕ) → m ≤ d → pred m ≤ pred d
   pred-more zero d h = omega arith

@@ -1,7 +1,7 @@
 -- A place as the code tells it, and what searches that found nothing tell.
-use Prim.Native.Nat.{ℕ, _≤_}
+use Prim.Native.Nat.{ℕ, _-_, _≤_, _<_}
 use mathlib.Core.Path.{_≡_}
-use mathlib.Core.Logic.{_≢_}
+use mathlib.Core.Logic.{_⊎_, _≢_}
 use mathlib.Core.Bool.{true}
 use mathlib.Core.List.{List}
 use mathlib.Core.Option.{Option, none, some}
@@ -10,12 +10,16 @@ use Rattle.text_rules.specs.Classes.{angleClose, angleOpen, braceClose, braceOp
 use Rattle.source_rules.specs.Brackets.{partner}
 use Rattle.source_rules.specs.Finding.{bodyAt, flat}
 use Rattle.search.specs.declared.Bare.{Bare}
+use Rattle.search.specs.declared.Counts.{Counts}
 use Rattle.search.specs.declared.Learnt.{Learnt}
 use Rattle.search.specs.declared.Met.{Met}
 use Rattle.search.specs.declared.Met.the-variants.{Partner, Depth}
 use Rattle.search.specs.declared.Place.{Place}
 use Rattle.search.specs.declared.Place.the-variants.{At, Nowhere}
+use Rattle.search.specs.declared.Reached.{Reached}
+use Rattle.search.specs.declared.Reached.the-variants.{Brace, Ended, Further}
 use Rattle.search.specs.declared.Unclosed.{Unclosed}
+use Rattle.search.specs.declared.Unflat.{Unflat}
 
 abbrev pub placeOf : Place → Option ℕ
 placeOf (At n) = some n
@@ -46,6 +50,32 @@ pub record Knows (opening closing : ℕ) (s : List ℕ) (u : Unclosed) : Type 0 
   pub none-there : partner opening closing (u .depth) (u .at) (drop (u .at) s) ≡ none
   pub inside : u .at ≤ length s
 
+-- counts that are at most the place, so that they can be counted on
+pub record Counted (n : Counts) (at : ℕ) : Type 0 where
+  pub angle-most : n .angle ≤ at
+  pub opened-most : n .opened ≤ at
+  pub closed-most : n .closed ≤ at
+
+-- the brace that a search with these counts at a place finds
+abbrev pub bodyFrom : List ℕ → (from : ℕ) → Counts → Option ℕ
+bodyFrom s from n = bodyAt (n .angle) (n .opened) (n .closed) from (drop from s)
+
+-- what a search for a body meets: the brace, a ; that ends it, or counts with which it goes on
+abbrev pub Reaches : List ℕ → (from to : ℕ) → Counts → Reached → Type 0
+Reaches s from to n (Brace p) = bodyFrom s from n ≡ some p
+Reaches s from to n Ended = bodyFrom s from n ≡ none
+Reaches s from to n (Further m) = (bodyFrom s from n ≡ bodyFrom s to m) × Counted m to
+
+-- counts with which a search finds no body from the known place on
+abbrev pub Lost : Unflat → (angle opened closed : ℕ) → Type 0
+Lost u angle opened closed = (u .angles < angle) ⊎ ((u .squares < opened - closed) ⊎ (u .crossed < closed - opened))
+
+-- what is known of searches for a body
+pub record KnowsUnflat (s : List ℕ) (u : Unflat) : Type 0 where
+  pub no-brace : Absent braceOpen s (u .last)
+  pub none-there : (angle opened closed : ℕ) → Lost u angle opened closed → bodyAt angle opened closed (u .at) (drop (u .at) s) ≡ none
+  pub inside : u .at ≤ length s
+
 -- the search finds no body from its place on, with the counts that it has there
 pub record Vain (s : List ℕ) (v : Bare) : Type 0 where
   pub none-there : v .known ≡ true → bodyAt (v .angle) (v .opened) (v .closed) (v .at) (drop (v .at) s) ≡ none
@@ -64,3 +94,4 @@ pub record Learned (s : List ℕ) (l : Learnt) : Type 0 where
   pub vain : Vain s (l .bare)
   pub rounds-known : Knows roundOpen roundClose s (l .rounds)
   pub braces-known : Knows braceOpen braceClose s (l .braces)
+  pub flats-known : KnowsUnflat s (l .flats)

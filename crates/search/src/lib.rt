@@ -12,7 +12,7 @@ ghost use Rattle.text_rules.specs.Classes.{braceClose, braceOpen, isSpace, isWo
 ghost use Rattle.text_rules.specs.Search.{countAfter, find, run, startsWith};
 ghost use Rattle.source_rules.specs.Brackets.{partner};
 ghost use Rattle.source_rules.specs.Finding.{angleAfter, bodyAt, flat, isFn};
-ghost use Rattle.search.specs.Place.{Absent, AllPlain, Knows, Learned, Meets, Passed, Plain, Vain, placeOf};
+ghost use Rattle.search.specs.Place.{Absent, AllPlain, Counted, Knows, KnowsUnflat, Learned, Lost, Meets, Passed, Plain, Reaches, Vain, bodyFrom, placeOf};
 
 // A place in a text, if there is one.
 pub enum Place {
@@ -268,13 +268,13 @@ fn is_plain(b: u8) -> bool
     b < b'{'
 }
 
-// The first byte from a place on that is not plain, or the end of the text.
-fn plain_end(s: &[u8], from: usize) -> usize
-    requires { ⌜ from ≤ length (now s) ⌝ }
-    ensures { λ r. ⌜ AllPlain (now (s .entry)) from r ⌝ }
+// The first byte from one place up to another that is not plain, or that other place.
+fn plain_end(s: &[u8], from: usize, to: usize) -> usize
+    requires { ⌜ (from ≤ to) × (to ≤ length (now s)) ⌝ }
+    ensures { λ r. ⌜ AllPlain (now (s .entry)) from r × (r ≤ to) ⌝ }
 {
     let mut at = from;
-    while at < s.len() {
+    while at < to {
         if !is_plain(s[at]) {
             return at;
         }
@@ -283,27 +283,46 @@ fn plain_end(s: &[u8], from: usize) -> usize
     at
 }
 
-// The brace that opens a body: the first one at angle and square depth 0, if no `;` stands there before it. A `;` inside, as in `[u8; 4]`,
-// ends nothing.
-fn body_open(s: &[u8], from: usize) -> Place
-    ensures { λ r. ⌜ placeOf r ≡ bodyAt 0 0 0 from (drop from (now (s .entry))) ⌝ }
+// What a search for a body has counted: angle brackets that are open, and square ones that were opened and closed.
+struct Counts {
+    angle: usize,
+    opened: usize,
+    closed: usize,
+}
+
+// What a search for a body meets up to a place: the brace, a `;` that ends it, or nothing, with the counts that it has there.
+enum Reached {
+    Brace(usize),
+    Ended,
+    Further(Counts),
+}
+
+// The brace that opens a body, sought from one place up to another: the first one at angle and square depth 0, if no `;` stands there before it.
+// A `;` inside, as in `[u8; 4]`, ends nothing.
+fn body_before(s: &[u8], from: usize, to: usize, n: Counts) -> Reached
+    requires { ⌜ (from ≤ to) × (to ≤ length (now s)) × Counted n from ⌝ }
+    ensures { λ r. ⌜ Reaches (now (s .entry)) from to n r ⌝ }
 {
-    let mut angle: usize = 0;
-    let mut opened: usize = 0;
-    let mut closed: usize = 0;
+    let mut angle = n.angle;
+    let mut opened = n.opened;
+    let mut closed = n.closed;
     let mut at = from;
-    while at < s.len() {
-        at = plain_end(s, at);
-        if at == s.len() {
-            return Place::Nowhere;
+    while at < to {
+        at = plain_end(s, at, to);
+        if at == to {
+            return Reached::Further(Counts {
+                angle,
+                opened,
+                closed,
+            });
         }
         let b = s[at];
         if is_flat(angle, opened, closed) {
             if b == b'{' {
-                return Place::At(at);
+                return Reached::Brace(at);
             }
             if b == b';' {
-                return Place::Nowhere;
+                return Reached::Ended;
             }
         }
         angle = angle_after(b, angle);
@@ -311,7 +330,124 @@ fn body_open(s: &[u8], from: usize) -> Place
         closed = count_after(b']', b, closed);
         at += 1;
     }
-    Place::Nowhere
+    Reached::Further(Counts {
+        angle,
+        opened,
+        closed,
+    })
+}
+
+// What is known of searches for a body: no brace stands from `last` on, and one that has more angle brackets open at the place `at` than `angles`,
+// more square ones open than `squares`, or more square ones closed that were never opened than `crossed`, finds none.
+pub struct Unflat {
+    pub last: usize,
+    pub at: usize,
+    pub angles: usize,
+    pub squares: usize,
+    pub crossed: usize,
+}
+
+// Whether a search with these counts at the known place is known to find none.
+fn is_lost(u: Unflat, n: Counts) -> bool
+    ensures { λ r. ⌜ (r ≡ true → Lost u (n .angle) (n .opened) (n .closed)) ⌝ }
+{
+    if u.angles < n.angle {
+        return true;
+    }
+    if n.closed < n.opened {
+        return u.squares < n.opened - n.closed;
+    }
+    u.crossed < n.closed - n.opened
+}
+
+// What is known after a search from a place on found no body. The text is read to its end again only where the place that is known is too far on,
+// or behind.
+fn unflat_further(s: &[u8], from: usize, u: Unflat) -> Unflat
+    requires { ⌜ (from ≤ length (now s)) × KnowsUnflat (now s) u ⌝ }
+    ensures { λ r. ⌜ KnowsUnflat (now (s .entry)) r ⌝ }
+{
+    let at = further(s.len(), from);
+    if from <= u.at {
+        if u.at <= at {
+            return u;
+        }
+    }
+    Unflat {
+        last: u.last,
+        at,
+        angles: closings(s, b'<', b'>', at),
+        squares: closings(s, b'[', b']', at),
+        crossed: closings(s, b']', b'[', at),
+    }
+}
+
+// The brace that opens a body, and what is known after it was sought.
+struct Opened {
+    place: Place,
+    flats: Unflat,
+}
+
+// The brace that opens a body, sought from a place on to the end of the text, with the counts that the search has there.
+fn body_on(s: &[u8], from: usize, n: Counts, u: Unflat) -> Opened
+    requires { ⌜ (from ≤ length (now s)) × Counted n from × KnowsUnflat (now s) u ⌝ }
+    ensures { λ r. ⌜ (placeOf (r .place) ≡ bodyFrom (now (s .entry)) from n) × KnowsUnflat (now (s .entry)) (r .flats) ⌝ }
+{
+    let met = body_before(s, from, s.len(), n);
+    match met {
+        Reached::Brace(p) => Opened {
+            place: Place::At(p),
+            flats: u,
+        },
+        Reached::Ended => Opened {
+            place: Place::Nowhere,
+            flats: u,
+        },
+        Reached::Further(m) => Opened {
+            place: Place::Nowhere,
+            flats: unflat_further(s, from, u),
+        },
+    }
+}
+
+// The brace that opens a body. A text of many brackets that are never closed is not read to its end for each signature.
+fn body_open(s: &[u8], from: usize, u: Unflat) -> Opened
+    requires { ⌜ (from ≤ length (now s)) × KnowsUnflat (now s) u ⌝ }
+    ensures { λ r. ⌜ (placeOf (r .place) ≡ bodyAt 0 0 0 from (drop from (now (s .entry)))) × KnowsUnflat (now (s .entry)) (r .flats) ⌝ }
+{
+    if u.last <= from {
+        return Opened {
+            place: Place::Nowhere,
+            flats: u,
+        };
+    }
+    let nothing = Counts {
+        angle: 0,
+        opened: 0,
+        closed: 0,
+    };
+    if u.at < from {
+        return body_on(s, from, nothing, u);
+    }
+    let near = body_before(s, from, u.at, nothing);
+    match near {
+        Reached::Brace(p) => Opened {
+            place: Place::At(p),
+            flats: u,
+        },
+        Reached::Ended => Opened {
+            place: Place::Nowhere,
+            flats: u,
+        },
+        Reached::Further(m) => {
+            if is_lost(u, m) {
+                return Opened {
+                    place: Place::Nowhere,
+                    flats: unflat_further(s, from, u),
+                };
+            }
+            body_on(s, u.at, m, u)
+        }
+    }
 }
 
 // A search for a body that found none, at a place that it passed, with the counts that it had there. Until one is known, nothing is.
@@ -326,6 +462,7 @@ pub struct Bare {
 // What was learnt from searches that found nothing: of bodies, and of brackets that are never closed.
 pub struct Learnt {
     pub bare: Bare,
+    pub flats: Unflat,
     pub rounds: Unclosed,
     pub braces: Unclosed,
 }
@@ -341,6 +478,13 @@ pub fn nothing_learnt(s: &[u8]) -> Learnt
             angle: 0,
             opened: 0,
             closed: 0,
+        },
+        flats: Unflat {
+            last: behind_last(s, b'{'),
+            at: s.len(),
+            angles: 0,
+            squares: 0,
+            crossed: 0,
         },
         rounds: known_first(s, b'(', b')'),
         braces: known_first(s, b'{', b'}'),
@@ -399,27 +543,35 @@ fn is_bare(v: Bare, from: usize) -> bool
     is_flat(v.angle, v.opened, v.closed)
 }
 
-// The brace that opens a body, and the last search that found none.
+// The brace that opens a body, the last search that found none, and what is known of searches.
 struct Sought {
     place: Place,
     bare: Bare,
+    flats: Unflat,
 }
 
 // The brace that opens a body. Signatures without a body that follow each other are passed by one search.
-fn body_behind(s: &[u8], from: usize, v: Bare) -> Sought
-    requires { ⌜ (from ≤ length (now s)) × Vain (now s) v ⌝ }
-    ensures { λ r. ⌜ (placeOf (r .place) ≡ bodyAt 0 0 0 from (drop from (now (s .entry)))) × Vain (now (s .entry)) (r .bare) ⌝ }
+fn body_behind(s: &[u8], from: usize, v: Bare, u: Unflat) -> Sought
+    requires { ⌜ (from ≤ length (now s)) × Vain (now s) v × KnowsUnflat (now s) u ⌝ }
+    ensures { λ r. ⌜
+        (placeOf (r .place) ≡ bodyAt 0 0 0 from (drop from (now (s .entry))))
+        × Vain (now (s .entry)) (r .bare)
+        × KnowsUnflat (now (s .entry)) (r .flats)
+        ⌝ }
 {
     let bare = taken_on(s, v, from);
     if is_bare(bare, from) {
         return Sought {
             place: Place::Nowhere,
             bare,
+            flats: u,
         };
     }
-    let place = body_open(s, from);
+    let found = body_open(s, from, u);
+    let place = found.place;
+    let flats = found.flats;
     match place {
-        Place::At(p) => Sought { place, bare },
+        Place::At(p) => Sought { place, bare, flats },
         Place::Nowhere => Sought {
             place,
             bare: Bare {
@@ -429,6 +581,7 @@ fn body_behind(s: &[u8], from: usize, v: Bare) -> Sought
                 opened: 0,
                 closed: 0,
             },
+            flats,
         },
     }
 }
@@ -448,6 +601,7 @@ pub fn list_end(s: &[u8], from: usize, v: Learnt) -> Looked
         ⌝ }
 {
     let bare = v.bare;
+    let flats = v.flats;
     let known = v.rounds;
     let braces = v.braces;
     let m = matching_delim(s, b'(', b')', from, known);
@@ -457,6 +611,7 @@ pub fn list_end(s: &[u8], from: usize, v: Learnt) -> Looked
         place,
         learnt: Learnt {
             bare,
+            flats,
             rounds,
             braces,
         },
@@ -472,6 +627,7 @@ pub fn block_end(s: &[u8], from: usize, v: Learnt) -> Looked
         ⌝ }
 {
     let bare = v.bare;
+    let flats = v.flats;
     let rounds = v.rounds;
     let known = v.braces;
     let m = matching_delim(s, b'{', b'}', from, known);
@@ -481,6 +637,7 @@ pub fn block_end(s: &[u8], from: usize, v: Learnt) -> Looked
         place,
         learnt: Learnt {
             bare,
+            flats,
             rounds,
             braces,
         },
@@ -493,15 +650,18 @@ pub fn body_after(s: &[u8], from: usize, v: Learnt) -> Looked
     ensures { λ r. ⌜ (placeOf (r .place) ≡ bodyAt 0 0 0 from (drop from (now (s .entry)))) × Learned (now (s .entry)) (r .learnt) ⌝ }
 {
     let known = v.bare;
+    let unflat = v.flats;
     let rounds = v.rounds;
     let braces = v.braces;
-    let found = body_behind(s, from, known);
+    let found = body_behind(s, from, known, unflat);
     let place = found.place;
     let bare = found.bare;
+    let flats = found.flats;
     Looked {
         place,
         learnt: Learnt {
             bare,
+            flats,
             rounds,
             braces,
         },

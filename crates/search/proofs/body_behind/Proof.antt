@@ -22,17 +22,18 @@ returns : tie.Need-returns
 returns c =
     let t = c .before .before in
     let a = t .before .before .args in
-    (sym (none-from (a .s .now) (t .taken-on .result) (a .from) (t .taken-on .ensures) (c .before .is-bare .ensures (c .if1 .taken))), t .taken-on .ensures)
+    (sym (none-from (a .s .now) (t .taken-on .result) (a .from) (t .taken-on .ensures) (c .before .is-bare .ensures (c .if1 .taken))), t .taken-on .ensures, t .before .before .pre .2)
 
 returns-2 : tie.Need-returns-2
 returns-2 c =
-    let o = c .before .before .before in
-    (sym (ap placeOf (c .before .place .given .1)) ∙ o .body-open .ensures, o .before .before .before .taken-on .ensures)
+    let o = c .before .before .before .before in
+    (sym (ap placeOf (c .before .place .given .1)) ∙ o .body-open .ensures .0, o .before .before .before .taken-on .ensures, o .body-open .ensures .1)
 
 returns-3 : tie.Need-returns-3
 returns-3 c =
-    let o = c .before .before in
-    (o .body-open .ensures, record { none-there = λ e. sym (o .body-open .ensures) ∙ ap placeOf (c .enum-told .given .1); angle-most = omega arith; opened-most = omega arith; closed-most = omega arith })
+    let o = c .before .before .before in
+    let e = o .body-open .ensures in
+    (e .0, record { none-there = λ k. sym (e .0) ∙ ap placeOf (c .enum-told .given .1); angle-most = omega arith; opened-most = omega arith; closed-most = omega arith }, e .1)
 
 pub body-behind-spec : {M : Type 1} → statement M
 body-behind-spec =

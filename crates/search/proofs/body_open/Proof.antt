@@ -1,103 +1,83 @@
--- `search::body_open` meets its contract: at each turn the brace sought from `at` on, at the depths reached, is the one sought from the start
--- on at depth 0. The three counts are at most the place, so that they can be counted.
-use Prim.Native.Nat.{ℕ, _≤_, _<_, _-_, _+_}
-use mathlib.Core.Path.{_≡_, refl, sym, _∙_}
-use mathlib.Core.Logic.{_⊎_, _≢_, inl, inr, ⊎-elim}
-use mathlib.Core.Bool.{false}
+-- `search::body_open` meets its contract: behind the last brace there is no body. Up to the known place the search is made; there it is known to
+-- find none, or it is made on.
+use mathlib.Core.Path.{sym, subst, _∙_}
 use native.Mathlib.Omega.{arith}
 use borrow.Author.Needs.{needs}
-use borrow.Author.Tests.{eq-eqb, ne-eqb}
-use lib.ListN.{length, drop, getD}
-use Rattle.text_rules.specs.Classes.{braceOpen, semicolon}
-use Rattle.source_rules.specs.Finding.{bodyAt, flat}
-use Rattle.source_rules.specs.WalkSteps.{body-end, body-step}
-use Rattle.search.specs.BodyLaws.{passed}
+use Rattle.search.specs.FlatLaws.{no-body}
+use Rattle.search.specs.Place.{Reaches}
 use Rattle.search.proofs.body_open.Statement.{statement}
 use Rattle.search.proofs.body_open.Tie as tie
 
-abbrev Inv-loop : tie.InvT-loop
-Inv-loop s from angle₀ opened₀ closed₀ at₀ angle opened closed at =
-    (angle ≤ at) × (opened ≤ at) × (closed ≤ at) × (bodyAt angle opened closed at (drop at s) ≡ bodyAt 0 0 0 from (drop from s))
-
-abbrev μ-loop : tie.MeasureT-loop
-μ-loop s from angle₀ opened₀ closed₀ at₀ angle opened closed at = length s - at
-
-returns : tie.Need-returns Inv-loop μ-loop
+returns : tie.Need-returns
 returns c =
-    let l = c .before .before .before in
-    let s = l .before .before .args .s .now in
-    let e = c .before .plain-end .ensures in
-    let at = c .before .plain-end .result in
-    let here : bodyAt (l .loop .angle) (l .loop .opened) (l .loop .closed) at (drop at s) ≡ bodyAt 0 0 0 (l .before .before .args .from) (drop (l .before .before .args .from) s) =
-    sym (e .passes (l .loop .angle) (l .loop .opened) (l .loop .closed)) ∙ l .loop .inv .3 in
-    sym (body-end s at (omega (arith, c .if1 .taken)) (l .loop .angle) (l .loop .opened) (l .loop .closed)) ∙ here
+    let b = c .before .before .before in
+    let a = b .args in
+    (sym (no-body (a .s .now) (a .u .last) (a .from) 0 0 0 (b .pre .1 .no-brace) (c .if1 .taken)), b .pre .1)
 
-inside : (at n : ℕ) → at ≤ n → at ≢ n → at < n
-inside at n h d = omega (arith, d)
+body-on-requires : tie.Need-body-on-requires
+body-on-requires c κs =
+    let b = c .before .before .before .before .before in
+    (b .pre .0, record { angle-most = omega arith; opened-most = omega arith; closed-most = omega arith }, b .pre .1)
 
-returns-2 : tie.Need-returns-2 Inv-loop μ-loop
-returns-2 c =
-    let l = c .before .before .before .before .before .before .before in
-    let s = l .before .before .args .s .now in
-    let e = c .before .before .before .before .before .plain-end .ensures in
-    let at = c .before .before .before .before .before .plain-end .result in
-    let here : bodyAt (l .loop .angle) (l .loop .opened) (l .loop .closed) at (drop at s) ≡ bodyAt 0 0 0 (l .before .before .args .from) (drop (l .before .before .args .from) s) =
-    sym (e .passes (l .loop .angle) (l .loop .opened) (l .loop .closed)) ∙ l .loop .inv .3 in
-    let h = inside at (length s) (e .inside) (c .before .before .before .before .if1 .left) in
-    sym (body-step s at h (l .loop .angle) (l .loop .opened) (l .loop .closed) ∙ rw (sym (c .before .before .is-flat .ensures) ∙ c .before .if2 .taken, eq-eqb _ 123 (c .if3 .taken))) ∙ here
+body-before-requires : tie.Need-body-before-requires
+body-before-requires c κs =
+    let b = c .before .before .before .before .before in
+    (c .if2 .left, b .pre .1 .inside, record { angle-most = omega arith; opened-most = omega arith; closed-most = omega arith })
 
-returns-3 : tie.Need-returns-3 Inv-loop μ-loop
+returns-3 : tie.Need-returns-3
 returns-3 c =
-    let l = c .before .before .before .before .before .before .before .before in
-    let s = l .before .before .args .s .now in
-    let e = c .before .before .before .before .before .before .plain-end .ensures in
-    let at = c .before .before .before .before .before .before .plain-end .result in
-    let here : bodyAt (l .loop .angle) (l .loop .opened) (l .loop .closed) at (drop at s) ≡ bodyAt 0 0 0 (l .before .before .args .from) (drop (l .before .before .args .from) s) =
-    sym (e .passes (l .loop .angle) (l .loop .opened) (l .loop .closed)) ∙ l .loop .inv .3 in
-    let h = inside at (length s) (e .inside) (c .before .before .before .before .before .if1 .left) in
-    sym (body-step s at h (l .loop .angle) (l .loop .opened) (l .loop .closed)
-    ∙ rw (sym (c .before .before .before .is-flat .ensures) ∙ c .before .before .if2 .taken, ne-eqb _ 123 (c .before .if3 .left), eq-eqb _ 59 (c .if4 .taken))) ∙ here
+    let k = c .before .before .before .before in
+    let b = k .before .before .before .before .before .before .before .before in
+    let a = b .args in
+    let e = subst (Reaches (a .s .now) (a .from) (a .u .at) _) (k .near2 .given .1) (k .before .before .body-before .ensures) in
+    (sym (e .0 ∙ b .pre .1 .none-there _ _ _ (c .before .before .is-lost .ensures (c .before .if3 .taken))), c .unflat-further .ensures)
 
-loop-again : tie.Need-loop-again Inv-loop μ-loop
-loop-again c =
-    let j = c .before .before .before in
-    let l = c .before .before .before .before .before .before .before .before .before in
-    let s = l .before .before .args .s .now in
-    let e = c .before .before .before .before .before .before .before .plain-end .ensures in
-    let at = c .before .before .before .before .before .before .before .plain-end .result in
-    let here : bodyAt (l .loop .angle) (l .loop .opened) (l .loop .closed) at (drop at s) ≡ bodyAt 0 0 0 (l .before .before .args .from) (drop (l .before .before .args .from) s) =
-    sym (e .passes (l .loop .angle) (l .loop .opened) (l .loop .closed)) ∙ l .loop .inv .3 in
-    let h = inside at (length s) (e .inside) (c .before .before .before .before .before .before .if1 .left) in
-    let ended : (flat (l .loop .angle) (l .loop .opened) (l .loop .closed) ≡ false) ⊎ ((getD s at 0 ≢ braceOpen) × (getD s at 0 ≢ semicolon)) =
-    ⊎-elim (λ w. inr (w .1 .left, w .2 .left)) (λ w. inl (sym (j .before .is-flat .ensures) ∙ w .left)) (j .if2 .came) in (
-      omega (arith, e .further, l .loop .inv .0, c .before .before .angle-after .ensures .1),
-      omega (arith, e .further, l .loop .inv .1, c .before .count-after .ensures .1),
-      omega (arith, e .further, l .loop .inv .2, c .count-after2 .ensures .1),
-      rw (c .before .before .angle-after .ensures .0, c .before .count-after .ensures .0, c .count-after2 .ensures .0) (sym (passed s (l .loop .angle) (l .loop .opened) (l .loop .closed) at h ended) ∙ here),
-    )
+body-on-requires-2 : tie.Need-body-on-requires-2
+body-on-requires-2 c κs =
+    let k = c .before .before .before in
+    let b = k .before .before .before .before .before .before .before .before in
+    let a = b .args in
+    let e = subst (Reaches (a .s .now) (a .from) (a .u .at) _) (k .near2 .given .1) (k .before .before .body-before .ensures) in
+    (b .pre .1 .inside, e .1, b .pre .1)
 
-returns-4 : tie.Need-returns-4 Inv-loop μ-loop
+returns-4 : tie.Need-returns-4
 returns-4 c =
-    let l = c .before in
-    sym (body-end (l .before .before .args .s .now) (l .loop .at) (omega arith) (l .loop .angle) (l .loop .opened) (l .loop .closed)) ∙ l .loop .inv .3
+    let k = c .before in
+    let b = k .before .before .before .before .before .before .before .before in
+    let a = b .args in
+    (sym (subst (Reaches (a .s .now) (a .from) (a .u .at) _) (k .near .given .1) (k .before .before .body-before .ensures)), b .pre .1)
+
+returns-5 : tie.Need-returns-5
+returns-5 c =
+    let o = c .before .before in
+    let b = o .before .before .before .before .before .before in
+    let a = b .args in
+    (sym (subst (Reaches (a .s .now) (a .from) (a .u .at) _) (c .enum-told .given .1) (o .body-before .ensures)), b .pre .1)
+
+returns-6 : tie.Need-returns-6
+returns-6 c =
+    let k = c .before .before .before .before in
+    let b = k .before .before .before .before .before .before .before .before in
+    let a = b .args in
+    let e = subst (Reaches (a .s .now) (a .from) (a .u .at) _) (k .near2 .given .1) (k .before .before .body-before .ensures) in
+    let r = c .body-on2 .ensures in
+    (r .0 ∙ sym (e .0), r .1)
 
 pub body-open-spec : {M : Type 1} → statement M
 body-open-spec =
     tie.close
     (tie.spec
-    Inv-loop
-    μ-loop
-    (λ c. (omega arith, omega arith, omega arith, refl))
-    (λ c κs. omega arith)
     returns
-    (λ c. inside _ _ (c .before .before .plain-end .ensures .inside) (c .before .if1 .left))
+    body-on-requires
+    (λ c. search needs)
+    body-before-requires
+    (λ c. search needs)
+    (λ c. search needs)
+    (λ c. search needs)
     (λ c κs. search needs)
-    returns-2
+    (λ c κs. search needs)
     returns-3
-    (λ c κs. omega (arith, c .before .before .before .before .before .before .loop .inv .0))
-    (λ c κs. omega (arith, c .before .before .before .before .before .before .before .loop .inv .1))
-    (λ c κs. omega (arith, c .before .before .before .before .before .before .before .before .loop .inv .2))
-    (λ c. omega (arith, inside _ _ (c .before .before .before .before .before .before .before .plain-end .ensures .inside) (c .before .before .before .before .before .before .if1 .left)))
-    (λ c. omega (arith, c .before .before .before .before .before .before .before .plain-end .ensures .further, inside _ _ (c .before .before .before .before .before .before .before .plain-end .ensures .inside) (c .before .before .before .before .before .before .if1 .left)))
-    loop-again
-    returns-4)
+    body-on-requires-2
+    returns-4
+    returns-5
+    returns-6)

@@ -1,5 +1,5 @@
 -- `search::plain_end` meets its contract: a search for a body passes each plain byte.
-use Prim.Native.Nat.{_-_}
+use Prim.Native.Nat.{_-_, _≤_}
 use mathlib.Core.Path.{refl, _∙_}
 use native.Mathlib.Omega.{arith}
 use borrow.Author.Needs.{needs}
@@ -11,13 +11,13 @@ use Rattle.search.proofs.plain_end.Statement.{statement}
 use Rattle.search.proofs.plain_end.Tie as tie
 
 abbrev Inv-loop : tie.InvT-loop
-Inv-loop s from at₀ at = AllPlain s from at
+Inv-loop s from to at₀ at = AllPlain s from at × (at ≤ to)
 
 abbrev μ-loop : tie.MeasureT-loop
-μ-loop s from at₀ at = length s - at
+μ-loop s from to at₀ at = to - at
 
 loop-holds : tie.Need-loop-holds Inv-loop μ-loop
-loop-holds c = record { further = omega arith; inside = c .before .pre; passes = λ angle opened closed. refl }
+loop-holds c = (record { further = omega arith; inside = omega arith; passes = λ angle opened closed. refl }, c .before .pre .0)
 
 returns : tie.Need-returns Inv-loop μ-loop
 returns c = c .before .before .before .before .loop .inv
@@ -26,12 +26,14 @@ loop-again : tie.Need-loop-again Inv-loop μ-loop
 loop-again c =
     let l = c .before .before .before .before in
     let s = l .before .before .args .s .now in
-    let v = l .loop .inv in
-    record {
-      further = omega (arith, v .further);
-      inside = omega arith;
-      passes = λ angle opened closed. v .passes angle opened closed ∙ plain-passed s angle opened closed (l .loop .at) (omega arith) (c .before .is-plain .ensures (not-false _ (c .if1 .left)));
-    }
+    let v = l .loop .inv .0 in (
+      record {
+        further = omega (arith, v .further);
+        inside = omega arith;
+        passes = λ angle opened closed. v .passes angle opened closed ∙ plain-passed s angle opened closed (l .loop .at) (omega arith) (c .before .is-plain .ensures (not-false _ (c .if1 .left)));
+      },
+      omega arith,
+    )
 
 returns-2 : tie.Need-returns-2 Inv-loop μ-loop
 returns-2 c = c .before .loop .inv

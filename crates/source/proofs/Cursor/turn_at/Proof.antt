@@ -78,7 +78,7 @@ returns-5 c =
     let word : isFn (byteBefore s at) (drop at s) ≡ true = sym (w .word-at .ensures) ∙ not-false _ (m .before .if4 .left) in
     let (r, v) = subst (Measures s (b .args .self)) (c .before .m .given .1) (m .measure .ensures) in
     passes s (b .args .self) (b .pre .0) (b .pre .1) (p .span-at .result) (p .span-at .ensures) (k .count-after .result) (k .count-after .ensures .0)
-    (sought-word (p .span-at .result .end - at) (b .args .self .resume - at) (byteBefore s at) (drop at s) (omega arith) (omega arith) word ∙ r .not-found)
+    (sought-word (p .span-at .result .end - at) (b .args .self .resume - at) (byteBefore s at) (drop at s) (omega (arith, w .before .before .before .if2 .left)) (omega (arith, w .before .if3 .left)) word ∙ r .not-found)
     (c .before .m .given .0 .0) (c .before .m .given .0 .1 .0) (c .before .m .given .0 .1 .1 .0) (r .no-function) v
 
 returns-6 : tie.Need-returns-6
@@ -94,7 +94,7 @@ returns-6 c =
     let (r, v) = subst (Measures s (b .args .self)) (c .before .m2 .given .1) (m .measure .ensures) in
     finds s (b .args .self) (b .pre .0) (b .pre .1) (p .span-at .result) (p .span-at .ensures) (k .count-after .result) (k .count-after .ensures .0)
     (c .before .m2 .given .0 .0) (c .before .m2 .given .0 .1 .0) r
-    (sought-word (p .span-at .result .end - at) (b .args .self .resume - at) (byteBefore s at) (drop at s) (omega arith) (omega arith) word ∙ r .found) (c .before .m2 .given .0 .1 .1 .0) v
+    (sought-word (p .span-at .result .end - at) (b .args .self .resume - at) (byteBefore s at) (drop at s) (omega (arith, w .before .before .before .if2 .left)) (omega (arith, w .before .if3 .left)) word ∙ r .found) (c .before .m2 .given .0 .1 .1 .0) v
 
 pub turn-at-spec : {M : Type 1} → statement M
 turn-at-spec =
