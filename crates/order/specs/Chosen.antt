@@ -94,7 +94,7 @@ module _ {A : Type 0} (less : A → A → Bool) (orders : Orders less) (d : A) (
   abbrev pub choice : ℕ → Option (Placed A)
   choice k = if eqb k (length xs) then none else some (item k)
 
-  choice-none : (k : ℕ) → k ≡ length xs → choice k ≡ none
+  pub choice-none : (k : ℕ) → k ≡ length xs → choice k ≡ none
   choice-none k e = rw (eq-eqb k (length xs) e)
 
   pub choice-some : (k : ℕ) → (k ≡ length xs → ⊥) → choice k ≡ some (item k)
