@@ -12,7 +12,7 @@ use Rattle.gate_rules.specs.RowOrders.{worse-orders}
 use Rattle.gate_rules.specs.Scan.{functionsOf}
 use Rattle.functions.specs.Shown.{limitsOf, noFun}
 use Rattle.order.specs.Chosen.{taken-none}
-use Rattle.report_rows.specs.Rest.{Rest, rest-next, rest-none, rest-room, rest-whole}
+use Rattle.listing.specs.Rest.{Rest, rest-next, rest-none, rest-room, rest-whole}
 use Rattle.report_functions.proofs.put_rows.Statement.{statement}
 use Rattle.report_functions.proofs.put_rows.Tie as tie
 
