@@ -15,7 +15,7 @@ use lib.Seq.{getD-set-other, getD-set-same}
 use borrow.Author.Tests.{eqb-false, eqb-true, ltb-false, ltb-true}
 use Rattle.text_rules.specs.ByteOrder.{Orders}
 use Rattle.text_rules.specs.Bytes.{All, _∈_, if_then_else_}
-use Rattle.text_rules.specs.BytesLaws.{All-append, true-false, whether}
+use Rattle.text_rules.specs.BytesLaws.{All-append, whether}
 use Rattle.text_rules.specs.Selection.{Placed, ahead, ahead-asym, placedFrom}
 use Rattle.order.specs.Best.{After, Best, back-in, front-in}
 use Rattle.order.specs.Chosen.{Chosen, Fit, choice, choice-none, choice-some, fit-decided, fit-fails, fit-first, goesFirst, item, other-first}
@@ -106,8 +106,8 @@ module _ {A : Type 0} (less : A → A → Bool) (orders : Orders less) (d : A) (
   -- from the node i on, the matches are played, and each node holds an element or none
   pub record PlayedFrom (i : ℕ) (ns : List ℕ) : Type 0 where
     pub room : 2 * length xs ≤ length ns
-    pub won : (j : ℕ) → i ≤ j → 1 ≤ j → j < length xs → Won ns j
-    pub small : (j : ℕ) → i ≤ j → 1 ≤ j → j < 2 * length xs → getD ns j 0 ≤ length xs
+    pub won : (j : ℕ) → i ≤ j → j < length xs → Won ns j
+    pub small : (j : ℕ) → i ≤ j → j < 2 * length xs → getD ns j 0 ≤ length xs
 
   -- all of them
   abbrev pub Settled : List ℕ → Type 0
@@ -156,11 +156,11 @@ module _ {A : Type 0} (less : A → A → Bool) (orders : Orders less) (d : A) (
         record {
           room = omega (arith, p .long, h .room);
           won =
-              λ j a b c. elim (same-or-not j i) [
+              λ j a c. elim (same-or-not j i) [
                 | inl e ↦ subst (Won new) (sym e) (p .won (omega arith))
-                | inr e ↦ others-won j e (λ f. omega (arith, e)) (λ f. omega (arith, e)) (h .won j (omega (arith, e)) b c)
+                | inr e ↦ others-won j e (λ f. omega (arith, e)) (λ f. omega (arith, e)) (h .won j (omega (arith, e)) c)
               ];
-          small = λ j a b c. others-small j (λ e. h .small j (omega (arith, e)) b c);
+          small = λ j a c. others-small j (λ e. h .small j (omega (arith, e)) c);
         }
 
     -- and along a path
@@ -177,13 +177,13 @@ module _ {A : Type 0} (less : A → A → Bool) (orders : Orders less) (d : A) (
         }
 
   pub played-all : (i : ℕ) (ns : List ℕ) → i ≤ 1 → PlayedFrom i ns → Settled ns
-  played-all i ns h p = record { room = p .room; won = λ j a b c. p .won j (omega arith) b c; small = λ j a b c. p .small j (omega arith) b c }
+  played-all i ns h p = record { room = p .room; won = λ j a c. p .won j (omega arith) c; small = λ j a c. p .small j (omega arith) c }
 
   pub path-whole : (i : ℕ) (ns : List ℕ) → Settled ns → PlayedBut i ns
-  path-whole i ns p = record { room = p .room; won = λ j n b c. p .won j b b c; small = λ j b c. p .small j b b c }
+  path-whole i ns p = record { room = p .room; won = λ j n b c. p .won j b c; small = λ j b c. p .small j b c }
 
   pub path-end : (i : ℕ) (ns : List ℕ) → i ≡ 0 → PlayedBut i ns → Settled ns
-  path-end i ns e p = record { room = p .room; won = λ j a b c. p .won j (λ f. omega arith) b c; small = λ j a b c. p .small j b c }
+  path-end i ns e p = record { room = p .room; won = λ j a c. p .won j (λ f. omega arith) a c; small = λ j a c. p .small j a c }
 
   each-seen : (P : Placed A → Type 0) → ((k : ℕ) → k < length xs → P (item less orders d xs k)) → (k : ℕ) → k ≤ length xs → All P (take k (placedFrom 0 xs))
   each-seen P h zero l = tt
@@ -239,7 +239,7 @@ module _ {A : Type 0} (less : A → A → Bool) (orders : Orders less) (d : A) (
             | inl e ↦ subst (λ j. Unbeaten root (getD ns j 0)) (sym e) (λ n. (n, inl refl))
             | inr e ↦
                 let above = over-node most (i / 2) (omega arith) (omega (arith, e)) (omega arith) in
-                let match = s .won (i / 2) (omega (arith, e)) (omega (arith, e)) (omega arith) in
+                let match = s .won (i / 2) (omega (arith, e)) (omega arith) in
                 elim (halves i) [
                   | inl f ↦ subst (λ j. Unbeaten root (getD ns j 0)) (sym f) (unbeaten-trans root (getD ns (i / 2) 0) (getD ns (2 * (i / 2)) 0) above (match .over-left))
                   | inr f ↦ subst (λ j. Unbeaten root (getD ns j 0)) (sym f) (unbeaten-trans root (getD ns (i / 2) 0) (getD ns (2 * (i / 2) + 1) 0) above (match .over-right))
@@ -258,7 +258,7 @@ module _ {A : Type 0} (less : A → A → Bool) (orders : Orders less) (d : A) (
           elim (whether (ltb i (length xs))) [
             | inl e ↦
                 let m : i < length xs = ltb-true i (length xs) e in
-                elim (s .won i a a m .either) [
+                elim (s .won i a m .either) [
                   | inl f ↦ subst Source (sym f) (source most (2 * i) (omega arith) (omega arith) (omega arith))
                   | inr f ↦ subst Source (sym f) (source most (2 * i + 1) (omega arith) (omega arith) (omega arith))
                 ]

@@ -3,13 +3,12 @@
 ghost use mathlib.Core.Path.{_≡_};
 ghost use Prim.Native.Nat.{ℕ, _+_, _*_, _≤_, _<_};
 ghost use lib.ListN.{length, getD};
-ghost use Rattle.text_rules.specs.Bytes.{if_then_else_, same};
-ghost use Rattle.gate_rules.specs.Functions.{over};
+ghost use Rattle.text_rules.specs.Bytes.{same};
 ghost use Rattle.gate_rules.specs.Gate.{gate};
 ghost use Rattle.gate_rules.specs.Report.{worse};
 ghost use Rattle.gate_rules.specs.Scan.{functionsOf};
 ghost use Rattle.gate_rules.specs.Update.{rowBefore};
-ghost use Rattle.functions.specs.Shown.{Lies, Stand, limitsOf, noFun, shown};
+ghost use Rattle.functions.specs.Shown.{Lies, Stand, limitsOf, shown};
 ghost use Rattle.ranking.specs.Ranks.{Entered, Next, Played, PlayedBut, Ranked, Settled, Wins, decided, goesBefore};
 use functions::Function;
 use functions::Limits;

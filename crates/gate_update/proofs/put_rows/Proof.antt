@@ -1,18 +1,16 @@
 -- `gate_update::put_rows` meets its contract: each turn takes the next function and puts its row behind. The limits are read only before the loop, so the
 -- invariant speaks of any limits by which the functions were ranked.
 use Prim.Native.Nat.{_+_, _-_}
-use mathlib.Core.Path.{_≡_, ap, sym, _∙_}
+use mathlib.Core.Path.{ap, sym, _∙_}
 use native.Mathlib.Omega.{arith}
 use borrow.Author.Needs.{needs}
 use denote.Ref.{now}
-use lib.ListN.{length, getD}
+use lib.ListN.{length}
 use Rattle.text_rules.specs.Bytes.{putAt}
 use Rattle.gate_rules.specs.Functions.{Limits}
-use Rattle.gate_rules.specs.Gate.{gate}
-use Rattle.gate_rules.specs.Scan.{functionsOf}
-use Rattle.functions.specs.Shown.{limitsOf, noFun, shown}
+use Rattle.functions.specs.Shown.{limitsOf, shown}
 use Rattle.ranking.specs.Writing.{Writing, writing-all, writing-inside, writing-next, writing-none, writing-room, writing-there}
-use Rattle.gate_update.specs.Rows.{lined, lined-length, linedLength, updateRows}
+use Rattle.gate_update.specs.Rows.{lined, lined-length, updateRows}
 use Rattle.gate_update.proofs.put_rows.Statement.{statement}
 use Rattle.gate_update.proofs.put_rows.Tie as tie
 

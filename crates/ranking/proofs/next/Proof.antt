@@ -1,6 +1,6 @@
 -- `ranking::next` meets its contract: the node 1 holds the next function. Its leaf is emptied, and so only the match above that is due.
-use Prim.Native.Nat.{ℕ, _+_, _≤_, _<_}
-use mathlib.Core.Path.{_≡_, subst, sym, _∙_}
+use Prim.Native.Nat.{_+_, _≤_, _<_}
+use mathlib.Core.Path.{_≡_, subst}
 use native.Mathlib.Omega.{arith}
 use borrow.Author.Needs.{needs}
 use denote.Ref.{now}
@@ -9,7 +9,7 @@ use Rattle.text_rules.specs.Selection.{placedFrom}
 use Rattle.gate_rules.specs.Functions.{over}
 use Rattle.gate_rules.specs.Gate.{gate}
 use Rattle.gate_rules.specs.Scan.{functionsOf}
-use Rattle.functions.specs.Shown.{limitsOf, noFun}
+use Rattle.functions.specs.Shown.{noFun}
 use Rattle.order.specs.Chosen.{Chosen}
 use Rattle.order.specs.Tournament.{path-whole, played-set, played-up, root-chosen, root-taken}
 use Rattle.ranking.specs.Ranks.{lessOf, ordersOf}
@@ -19,7 +19,7 @@ use Rattle.ranking.proofs.next.Tie as tie
 cast-first : tie.Need-cast-first
 cast-first c =
     let s = c .before .before .before in
-    let small = s .pre .3 .small 1 (omega arith) (omega arith) (omega (arith, s .pre .1, s .pre .2)) in
+    let small = s .pre .3 .small 1 (omega arith) (omega (arith, s .pre .1, s .pre .2)) in
     omega (arith, s .pre .1)
 
 returns : tie.Need-returns
@@ -40,19 +40,19 @@ returns c =
 add-leaf : tie.Need-add-leaf
 add-leaf c =
     let s = c .before .before .before .before in
-    let small = s .pre .3 .small 1 (omega arith) (omega arith) (omega (arith, s .pre .1, s .pre .2)) in
+    let small = s .pre .3 .small 1 (omega arith) (omega (arith, s .pre .1, s .pre .2)) in
     omega (arith, s .pre .0 .few, s .pre .1)
 
 mul-nodes : tie.Need-mul-nodes
 mul-nodes c =
     let s = c .before .before .before .before in
-    let small = s .pre .3 .small 1 (omega arith) (omega arith) (omega (arith, s .pre .1, s .pre .2)) in
+    let small = s .pre .3 .small 1 (omega arith) (omega (arith, s .pre .1, s .pre .2)) in
     omega (arith, s .pre .0 .few, s .pre .1)
 
 element-write-nodes : tie.Need-element-write-nodes
 element-write-nodes c =
     let s = c .before .before .before .before in
-    let small = s .pre .3 .small 1 (omega arith) (omega arith) (omega (arith, s .pre .1, s .pre .2)) in
+    let small = s .pre .3 .small 1 (omega arith) (omega (arith, s .pre .1, s .pre .2)) in
     omega (arith, s .pre .0 .few, s .pre .1, c .if1 .left)
 
 play-path-requires : tie.Need-play-path-requires
@@ -67,7 +67,7 @@ play-path-requires c κs =
     let ns = now (a .nodes) in
     let leaf = a .n + getD ns 1 0 in
     let room = s .pre .3 .room in
-    let small = s .pre .3 .small 1 (omega arith) (omega arith) (omega (arith, s .pre .1, s .pre .2)) in
+    let small = s .pre .3 .small 1 (omega arith) (omega (arith, s .pre .1, s .pre .2)) in
     let other = e1 .if1 .left in
     let inside : leaf < length ns = omega (arith, other) in (
       s .pre .0,
@@ -89,7 +89,7 @@ returns-2 c =
     let some : 1 ≤ length fs = omega (arith, s .pre .2) in
     let leaf-is : a .n + getD ns 1 0 ≡ length fs + getD ns 1 0 = omega arith in
     record {
-      within = s .pre .3 .small 1 (omega arith) (omega arith) (omega arith);
+      within = s .pre .3 .small 1 (omega arith) (omega arith);
       settled = c .play-path .ensures .0;
       chosen = λ L last h. root-chosen less orders noFun fs (over L) last ns (s .pre .3) h some;
       ranked =

@@ -1,5 +1,4 @@
 -- `ranking::play` meets its contract: the node holds the winner of the two below it, and no other node changes.
-use mathlib.Core.Path.{_≡_, subst}
 use native.Mathlib.Omega.{arith}
 use borrow.Author.Needs.{needs}
 use denote.Ref.{now}

@@ -25,7 +25,7 @@ loop-holds c =
     let s = c .before .before in
     let e = s .pre .1 in (
       omega arith,
-      record { room = omega (arith, s .pre .2); won = λ j a b l. absurd (omega arith); small = λ j a b l. let h = s .pre .3 j a (omega arith) in omega arith },
+      record { room = omega (arith, s .pre .2); won = λ j a l. absurd (omega arith); small = λ j a l. let h = s .pre .3 j a (omega arith) in omega arith },
       λ j h. refl,
     )
 
@@ -41,8 +41,8 @@ play-requires c κs =
       omega (arith, l .loop .inv .1 .room),
       omega arith,
       omega arith,
-      (let h = small (2 * (i - 1)) (omega arith) (omega arith) (omega arith) in omega arith),
-      (let h = small (2 * (i - 1) + 1) (omega arith) (omega arith) (omega arith) in omega arith),
+      (let h = small (2 * (i - 1)) (omega arith) (omega arith) in omega arith),
+      (let h = small (2 * (i - 1) + 1) (omega arith) (omega arith) in omega arith),
     )
 
 loop-again : tie.Need-loop-again Inv-loop μ-loop

@@ -1,6 +1,5 @@
 -- `ranking::rank` meets its contract: the leaves hold the functions over the limits, and the matches leave them as they are.
-use Prim.Native.Nat.{ℕ, _≤_}
-use mathlib.Core.Path.{_≡_, subst, sym}
+use mathlib.Core.Path.{subst}
 use native.Mathlib.Omega.{arith}
 use borrow.Author.Needs.{needs}
 use denote.Ref.{now}

@@ -1,8 +1,7 @@
 -- `ranking::set_leaves` meets its contract: at each turn the leaves before k are set.
-use Prim.Native.Nat.{ℕ, _+_, _-_, _≤_, _<_}
-use mathlib.Core.Path.{_≡_, ap, refl, subst, sym, _∙_}
-use mathlib.Core.Logic.{⊎-elim, inl, inr}
-use mathlib.Core.Bool.{Bool, true, false}
+use Prim.Native.Nat.{_+_, _-_, _≤_}
+use mathlib.Core.Path.{_≡_, ap, refl, sym, _∙_}
+use mathlib.Core.Logic.{⊎-elim}
 use native.Mathlib.Omega.{arith}
 use borrow.Author.Needs.{needs}
 use denote.Ref.{now}
@@ -11,7 +10,7 @@ use Rattle.text_rules.specs.Bytes.{if_then_else_}
 use Rattle.gate_rules.specs.Functions.{over}
 use Rattle.gate_rules.specs.Gate.{gate}
 use Rattle.gate_rules.specs.Scan.{functionsOf}
-use Rattle.functions.specs.Shown.{limitsOf, noFun, shown}
+use Rattle.functions.specs.Shown.{limitsOf, noFun}
 use Rattle.order.specs.Tournament.{entered-next}
 use Rattle.ranking.specs.Ranks.{Entered}
 use Rattle.ranking.proofs.set_leaves.Statement.{statement}
