@@ -77,3 +77,23 @@ pub fn function_at(tree: &[u8], lent: &[u8], k: usize) -> Function
         params: r.params,
     }
 }
+
+// The path of a function, in the tree.
+pub fn path_of<'a>(tree: &'a [u8], f: Function) -> &'a [u8]
+    requires { ⌜ Lies (now tree) f ⌝ }
+    ensures { λ r. ⌜ now r ≡ shown (now (tree .entry)) f .path ⌝ }
+{
+    let from = f.path_at;
+    let to = f.path_end;
+    &tree[from..to]
+}
+
+// The name of a function, in the tree.
+pub fn name_of<'a>(tree: &'a [u8], f: Function) -> &'a [u8]
+    requires { ⌜ Lies (now tree) f ⌝ }
+    ensures { λ r. ⌜ now r ≡ shown (now (tree .entry)) f .name ⌝ }
+{
+    let from = f.name_at;
+    let to = f.name_end;
+    &tree[from..to]
+}

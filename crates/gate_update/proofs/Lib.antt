@@ -1,4 +1,2 @@
 -- The laws that the functions cite.
-mod Ahead
 mod Sizes
-mod Written

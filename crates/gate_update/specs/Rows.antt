@@ -1,4 +1,4 @@
--- A row of update by what it is made of, and its length in plain numbers.
+-- A row of update by what it is made of, and its length in plain numbers; and all rows, as a loop writes them.
 use Prim.Native.Nat.{ℕ, _+_, _≤_}
 use mathlib.Core.Path.{_≡_, refl, ap, ap₂, sym, _∙_}
 use mathlib.Core.List.{List, [], _∷_, _++_, append-assoc}
@@ -8,10 +8,14 @@ use Rattle.text_rules.specs.Bytes.{ascii, joined, overwritten, putAt}
 use Rattle.text_rules.specs.Classes.{lf}
 use Rattle.text_rules.specs.Decimal.{decimal}
 use Rattle.text_rules.specs.WriterLaws.{joined-length, put-then}
-use Rattle.gate_rules.specs.Functions.{Fun, Limits}
-use Rattle.gate_rules.specs.Update.{baselineText, header, recorded, row, rows}
-use Rattle.functions.specs.Shown.{Lies}
+use Rattle.gate_rules.specs.Functions.{Fun, Limits, over}
+use Rattle.gate_rules.specs.RowOrders.{row-orders}
+use Rattle.gate_rules.specs.Update.{baselineText, header, overLimit, recorded, row, rowBefore, rows}
+use Rattle.functions.specs.Shown.{Lies, noFun}
 use Rattle.functions.specs.declared.Function.{Function}
+use Rattle.order.specs.Chosen.{left, left-all}
+use Rattle.ranking.specs.Writing.{Rows}
+use Rattle.ranking.specs.declared.Order.the-variants.{Keys}
 
 -- the header's length
 pub header-length : length header ≡ 396
@@ -98,3 +102,19 @@ put-text L fs first end s t u h a b =
       omega (arith, a .0, b .0, text-length L fs),
       put-then 0 first header (rows (recorded L fs)) s t u (omega arith) (omega (arith, a .0, header-length)) (a .1) (b .1) ∙ ap (λ n. text ++ drop n s) front,
     )
+
+-- the rows, one behind the other
+pub recorded-is : (L : Limits) (fs : List Fun) → left rowBefore row-orders noFun fs (over L) 0 ≡ recorded L fs
+unfolding recorded overLimit
+recorded-is L fs = left-all rowBefore row-orders noFun fs (over L)
+
+pub no-rows : rows [] ≡ []
+unfolding rows
+no-rows = refl
+
+pub one-row : (f : Fun) (fs : List Fun) → rows (f ∷ fs) ≡ lined f ++ rows fs
+unfolding rows
+one-row f fs = sym (append-assoc (row f) (10 ∷ []) (rows fs))
+
+abbrev pub updateRows : Rows Keys
+updateRows = record { listed = recorded; row = lined; rows = rows; listed-is = recorded-is; no-rows = no-rows; one-row = one-row }

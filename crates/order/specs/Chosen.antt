@@ -9,7 +9,7 @@ use mathlib.Core.Option.{Option, none, some}
 use native.Mathlib.Omega.{arith}
 use native.Mathlib.Numerals.{add-one}
 use lib.Dec.{eqb, ltb}
-use lib.ListN.{length, take, drop, getD}
+use lib.ListN.{length, take, drop, getD, drop-of-length-le}
 use borrow.Author.Tests.{eq-eqb, ltb-false, ne-eqb}
 use Rattle.text_rules.specs.ByteOrder.{Orders}
 use Rattle.text_rules.specs.Bytes.{if_then_else_, kept}
@@ -94,7 +94,7 @@ module _ {A : Type 0} (less : A → A → Bool) (orders : Orders less) (d : A) (
   abbrev pub choice : ℕ → Option (Placed A)
   choice k = if eqb k (length xs) then none else some (item k)
 
-  choice-none : (k : ℕ) → k ≡ length xs → choice k ≡ none
+  pub choice-none : (k : ℕ) → k ≡ length xs → choice k ≡ none
   choice-none k e = rw (eq-eqb k (length xs) e)
 
   pub choice-some : (k : ℕ) → (k ≡ length xs → ⊥) → choice k ≡ some (item k)
@@ -191,3 +191,11 @@ module _ {A : Type 0} (less : A → A → Bool) (orders : Orders less) (d : A) (
           choice-some next n
           ∙ sym (last-of (picks less orders test xs) taken (item next) (sym picked ∙ choice-some next n))
           ∙ ap (λ i. lastOf (take i (picks less orders test xs))) (sym (add-one taken))
+
+-- where something is to take there are elements
+pub left-some : {A : Type 0} (less : A → A → Bool) (orders : Orders less) (d : A) (test : A → Bool) (xs : List A) (taken : ℕ) → 0 < length (left less orders d xs test taken) → 0 < length xs
+unfolding left picks placedFrom sort kept
+left-some less orders d test [] taken h =
+    let most : length (picks less orders test []) ≤ taken = omega arith in
+    absurd (omega (arith, ap (λ ps. length (map (λ p. p .what) ps)) (drop-of-length-le (picks less orders test []) most)))
+left-some less orders d test (x ∷ xs) taken h = omega arith

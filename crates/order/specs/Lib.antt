@@ -1,4 +1,4 @@
 pub mod Best
 pub mod Picks
 pub mod Chosen
-pub mod Tied
+pub mod Tournament

@@ -5,7 +5,7 @@ use native.Mathlib.Omega.{arith}
 use lib.ListN.{getD}
 use denote.Ref.{now}
 use Rattle.gate_rules.specs.Report.{weightRows}
-use Rattle.report_rows.specs.Rest.{Rest, rest-next, rest-none, rest-room, rest-whole}
+use Rattle.listing.specs.Rest.{Rest, rest-next, rest-none, rest-room, rest-whole}
 use Rattle.report_files.specs.Files.{Heavy, file-inside, fileRow, heaviestFiles, rows-all, rows-done, rows-step, rowsFrom}
 use Rattle.report_files.specs.Weights.{weightAt}
 use Rattle.report_files.proofs.put_heaviest.Statement.{statement}

@@ -1,92 +1,85 @@
--- `report_functions::put_rows` meets its contract: at each turn the rows that are left, put behind those that are written, make the whole.
-use Rattle.report_functions.specs.Rows.{RowTaken, no-text, row-inside, row-taken, rows-all, rows-next, rowsLeft, text-next}
-use Prim.Native.Nat.{_+_, _-_, _<_, _≤_}
-use mathlib.Core.Path.{_≡_, ap, subst, sym}
+-- `report_functions::put_rows` meets its contract: each turn takes the next function and puts its row behind. The limits are read only before the loop, so
+-- the invariant speaks of any limits by which the functions were ranked.
+use Prim.Native.Nat.{_-_}
 use native.Mathlib.Omega.{arith}
-use lib.ListN.{getD, length}
+use borrow.Author.Needs.{needs}
 use denote.Ref.{now}
-use Rattle.gate_rules.specs.Functions.{over}
-use Rattle.gate_rules.specs.Gate.{gate}
-use Rattle.gate_rules.specs.Report.{reportRow, reportRows, reported, worse}
-use Rattle.gate_rules.specs.RowOrders.{worse-orders}
-use Rattle.gate_rules.specs.Scan.{functionsOf}
-use Rattle.functions.specs.Shown.{limitsOf, noFun}
-use Rattle.order.specs.Chosen.{taken-none}
-use Rattle.report_rows.specs.Rest.{Rest, rest-next, rest-none, rest-room, rest-whole}
+use Rattle.gate_rules.specs.Functions.{Limits}
+use Rattle.functions.specs.Shown.{limitsOf}
+use Rattle.ranking.specs.Writing.{Writing, writing-all, writing-inside, writing-next, writing-none, writing-room, writing-there}
+use Rattle.report_functions.specs.Rows.{reportedRows}
 use Rattle.report_functions.proofs.put_rows.Statement.{statement}
 use Rattle.report_functions.proofs.put_rows.Tie as tie
 
 abbrev Inv-loop : tie.InvT-loop
-Inv-loop tree lent n limits count out₀ at last₀ end₀ done₀ out last end done =
-    (last ≤ n) × (done + length (rowsLeft (functionsOf gate tree) (limitsOf limits) done) ≡ count) × RowTaken (functionsOf gate tree) (limitsOf limits) done last
-    × Rest at out₀ (reportRows (reported (limitsOf limits) (functionsOf gate tree))) end out (reportRows (rowsLeft (functionsOf gate tree) (limitsOf limits) done))
+Inv-loop tree lent n count out₀ at nodes₀ end₀ done₀ out nodes end done =
+    (L : Limits) → Writing reportedRows L tree count at out₀ done₀ end₀ out₀ nodes₀ → Writing reportedRows L tree count at out₀ done end out nodes
 
 abbrev μ-loop : tie.MeasureT-loop
-μ-loop tree lent n limits count out₀ at last₀ end₀ done₀ out last end done = count - done
+μ-loop tree lent n count out₀ at nodes₀ end₀ done₀ out nodes end done = count - done
 
-loop-holds : tie.Need-loop-holds Inv-loop μ-loop
-loop-holds c =
-    let s = c .before .before .before in
+rank-requires : tie.Need-rank-requires Inv-loop μ-loop
+rank-requires c κs =
+    let s = c .before .before .before .before in
+    (s .pre .0, s .pre .1, omega (arith, s .pre .0 .few, s .pre .1))
+
+next-requires : tie.Need-next-requires Inv-loop μ-loop
+next-requires c κs =
+    let l = c .before .before in
+    let b = l .before in
+    let s = b .before .before .before .before .before in
     let a = s .args in
-    let fs = functionsOf gate (now (a .tree)) in
-    let L = limitsOf (a .limits) in (
-      omega arith,
-      omega (arith, ap length (rows-all fs L), s .pre .2),
-      taken-none worse worse-orders noFun fs (over L) (a .n) (s .pre .1),
-      subst (λ gs. Rest (a .at) (now (a .out)) (reportRows (reported L fs)) (a .at) (now (a .out)) (reportRows gs)) (sym (rows-all fs L)) (rest-whole (a .at) (now (a .out)) (reportRows (reported L fs)) (s .pre .3)),
-    )
-
-next-row-requires : tie.Need-next-row-requires Inv-loop μ-loop
-next-row-requires c κs = let s = c .before .before .before .before .before in (s .pre .0, s .pre .1, c .before .loop .inv .0)
+    let L = limitsOf (a .limits) in
+    let w = l .loop .inv L (writing-none reportedRows L (now (a .tree)) (a .count) (a .at) (now (a .out)) (a .n) _ (s .pre .1) (b .rank .ensures) (s .pre .2) (s .pre .3)) in
+    let there = writing-there reportedRows L (now (a .tree)) (a .count) (a .at) (now (a .out)) (l .loop .done) (l .loop .end) (l .loop .out) (l .loop .nodes) w (c .before .loop-test .taken) in
+    (s .pre .0, s .pre .1, omega (arith, there, s .pre .1), w .taking .settled)
 
 put-row-of-requires : tie.Need-put-row-of-requires Inv-loop μ-loop
 put-row-of-requires c κs =
-    let l = c .before .before .before in
-    let s = c .before .before .before .before .before .before .before in
+    let x = c .before in
+    let t = x .before .before in
+    let l = t .before in
+    let b = l .before in
+    let s = b .before .before .before .before .before in
     let a = s .args in
-    let fs = functionsOf gate (now (a .tree)) in
     let L = limitsOf (a .limits) in
-    let i = l .loop .inv in
-    let next = c .before .next-row .result in
-    let chosen = c .before .next-row .ensures in
-    let some : 0 < length (rowsLeft fs L (l .loop .done)) = omega (arith, i .1) in (
+    let w = l .loop .inv L (writing-none reportedRows L (now (a .tree)) (a .count) (a .at) (now (a .out)) (a .n) _ (s .pre .1) (b .rank .ensures) (s .pre .2) (s .pre .3)) in
+    let next = x .next .result in (
       s .pre .0,
-      row-inside fs L (l .loop .done) (l .loop .last) next (i .2) (chosen .1) some (omega (arith, chosen .0, s .pre .1)),
-      rest-room (a .at) (now (a .out)) (reportRows (reported L fs)) (l .loop .end) (l .loop .out) (reportRows (rowsLeft fs L (l .loop .done))) (reportRow (getD fs next noFun)) (reportRows (rowsLeft fs L (l .loop .done + 1))) (i .3)
-          (text-next fs L (l .loop .done) (l .loop .last) next (i .2) (chosen .1) some),
+      writing-inside reportedRows L (now (a .tree)) (a .count) (a .at) (now (a .out)) (l .loop .done) (l .loop .end) (l .loop .out) (l .loop .nodes) w (t .loop-test .taken) next _ (x .next .ensures),
+      writing-room reportedRows L (now (a .tree)) (a .count) (a .at) (now (a .out)) (l .loop .done) (l .loop .end) (l .loop .out) (l .loop .nodes) w (t .loop-test .taken) next _ (x .next .ensures),
     )
 
 loop-again : tie.Need-loop-again Inv-loop μ-loop
 loop-again c =
-    let l = c .before .before .before .before .before .before in
-    let s = c .before .before .before .before .before .before .before .before .before .before in
-    let a = s .args in
-    let fs = functionsOf gate (now (a .tree)) in
-    let L = limitsOf (a .limits) in
-    let i = l .loop .inv in
-    let next = c .before .before .before .before .next-row .result in
-    let chosen = c .before .before .before .before .next-row .ensures in
-    let put = c .before .before .put-row-of .ensures in
-    let some : 0 < length (rowsLeft fs L (l .loop .done)) = omega (arith, i .1) in (
-      chosen .0,
-      omega (arith, i .1, ap length (rows-next fs L (l .loop .done) (l .loop .last) next (i .2) (chosen .1) some)),
-      row-taken fs L (l .loop .done) (l .loop .last) next (i .2) (chosen .1) some,
-      rest-next (a .at) (now (a .out)) (reportRows (reported L fs)) (l .loop .end) (l .loop .out) (reportRows (rowsLeft fs L (l .loop .done))) (reportRow (getD fs next noFun)) (reportRows (rowsLeft fs L (l .loop .done + 1))) (i .3)
-          (text-next fs L (l .loop .done) (l .loop .last) next (i .2) (chosen .1) some) _ _ (put .0) (put .1),
-    )
+    let p = c .before .before in
+    let x = p .before .before in
+    let t = x .before .before in
+    let l = t .before in
+    let a = l .before .before .before .before .before .before .args in
+    λ L begun.
+    writing-next reportedRows L (now (a .tree)) (a .count) (a .at) (now (a .out)) (l .loop .done) (l .loop .end) (l .loop .out) (l .loop .nodes) (l .loop .inv L begun) (t .loop-test .taken) (x .next .result) _ (x .next .ensures) _ _
+    (p .put-row-of .ensures .0) (p .put-row-of .ensures .1)
 
 same-length : tie.Need-same-length Inv-loop μ-loop
-same-length c = c .before .loop .inv .3 .same
+same-length c =
+    let l = c .before in
+    let b = l .before in
+    let s = b .before .before .before .before .before in
+    let a = s .args in
+    let L = limitsOf (a .limits) in
+    let w = l .loop .inv L (writing-none reportedRows L (now (a .tree)) (a .count) (a .at) (now (a .out)) (a .n) _ (s .pre .1) (b .rank .ensures) (s .pre .2) (s .pre .3)) in
+    w .rest .same
 
 returns : tie.Need-returns Inv-loop μ-loop
 returns c =
     let l = c .before in
-    let s = c .before .before .before .before .before in
+    let b = l .before in
+    let s = b .before .before .before .before .before in
     let a = s .args in
-    let fs = functionsOf gate (now (a .tree)) in
     let L = limitsOf (a .limits) in
-    let i = l .loop .inv in
-    rest-none (a .at) (now (a .out)) (reportRows (reported L fs)) (l .loop .end) (l .loop .out) (reportRows (rowsLeft fs L (l .loop .done))) (i .3) (no-text (rowsLeft fs L (l .loop .done)) (omega (arith, i .1)))
+    let w = l .loop .inv L (writing-none reportedRows L (now (a .tree)) (a .count) (a .at) (now (a .out)) (a .n) _ (s .pre .1) (b .rank .ensures) (s .pre .2) (s .pre .3)) in
+    writing-all reportedRows L (now (a .tree)) (a .count) (a .at) (now (a .out)) (l .loop .done) (l .loop .end) (l .loop .out) (l .loop .nodes) w (c .loop-test .left)
 
 pub put-rows-spec : {M : Type 1} → statement M
 put-rows-spec =
@@ -94,11 +87,12 @@ put-rows-spec =
     (tie.spec
     Inv-loop
     μ-loop
-    loop-holds
-    next-row-requires
+    rank-requires
+    (λ c L w. w)
+    next-requires
     put-row-of-requires
-    (λ c. omega arith)
-    (λ c. omega arith)
+    (λ c. search needs)
+    (λ c. search needs)
     loop-again
     same-length
     returns)
