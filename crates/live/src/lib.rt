@@ -19,9 +19,7 @@ fn stands_before(tree: &[u8], lent: &[u8], k: usize, path: &[u8]) -> bool
     ensures { λ r. ⌜ r ≡ pathBefore (getD (functionsOf gate (now (tree .entry))) k noFun .path) (now (path .entry)) ⌝ }
 {
     let f = functions::function_at(tree, lent, k);
-    let from = f.path_at;
-    let to = f.path_end;
-    tree::path_before(&tree[from..to], path)
+    tree::path_before(functions::path_of(tree, f), path)
 }
 
 // Whether the path of the function k stands behind a path.
@@ -30,9 +28,7 @@ fn stands_behind(tree: &[u8], lent: &[u8], k: usize, path: &[u8]) -> bool
     ensures { λ r. ⌜ r ≡ pathBefore (now (path .entry)) (getD (functionsOf gate (now (tree .entry))) k noFun .path) ⌝ }
 {
     let f = functions::function_at(tree, lent, k);
-    let from = f.path_at;
-    let to = f.path_end;
-    tree::path_before(path, &tree[from..to])
+    tree::path_before(path, functions::path_of(tree, f))
 }
 
 // A number such that the functions in front of it have paths that stand before the path.
@@ -82,11 +78,11 @@ fn has_key(tree: &[u8], f: Function, bytes: &[u8]) -> bool
     requires { ⌜ Lies (now tree) f ⌝ }
     ensures { λ r. ⌜ r ≡ same (now (bytes .entry)) (key (shown (now (tree .entry)) f)) ⌝ }
 {
-    let path_at = f.path_at;
-    let path_end = f.path_end;
-    let name_at = f.name_at;
-    let name_end = f.name_end;
-    baseline::is_key(bytes, &tree[path_at..path_end], &tree[name_at..name_end])
+    baseline::is_key(
+        bytes,
+        functions::path_of(tree, f),
+        functions::name_of(tree, f),
+    )
 }
 
 // Whether one of the functions from one number up to another has the key.

@@ -9,16 +9,9 @@ use Rattle.live.proofs.stands_before.Tie as tie
 
 returns : tie.Need-returns
 returns c =
-    let f = c .before .before in
-    c .path-before .ensures ∙ ap (λ (g : Fun). pathBefore (g .path) (now (f .before .before .before .before .args .path))) (f .function-at .ensures .0)
+    let path = c .before in
+    let read = path .before in
+    c .path-before .ensures ∙ ap (λ p. pathBefore p (now (read .before .before .before .before .args .path))) (path .path-of .ensures) ∙ ap (λ (g : Fun). pathBefore (g .path) (now (read .before .before .before .before .args .path))) (read .function-at .ensures .0)
 
 pub stands-before-spec : {M : Type 1} → statement M
-stands-before-spec =
-    tie.close
-    (tie.spec
-    (λ c κs. search needs)
-    (λ c. search needs)
-    (λ c. search needs)
-    (λ c. search needs)
-    (λ c κs. search needs)
-    returns)
+stands-before-spec = tie.close (tie.spec (λ c κs. search needs) (λ c κs. search needs) (λ c κs. search needs) returns)

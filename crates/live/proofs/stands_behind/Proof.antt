@@ -9,16 +9,9 @@ use Rattle.live.proofs.stands_behind.Tie as tie
 
 returns : tie.Need-returns
 returns c =
-    let f = c .before .before in
-    c .path-before .ensures ∙ ap (λ (g : Fun). pathBefore (now (f .before .before .before .before .args .path)) (g .path)) (f .function-at .ensures .0)
+    let path = c .before in
+    let read = path .before in
+    c .path-before .ensures ∙ ap (pathBefore (now (read .before .before .before .before .args .path))) (path .path-of .ensures) ∙ ap (λ (g : Fun). pathBefore (now (read .before .before .before .before .args .path)) (g .path)) (read .function-at .ensures .0)
 
 pub stands-behind-spec : {M : Type 1} → statement M
-stands-behind-spec =
-    tie.close
-    (tie.spec
-    (λ c κs. search needs)
-    (λ c. search needs)
-    (λ c. search needs)
-    (λ c. search needs)
-    (λ c κs. search needs)
-    returns)
+stands-behind-spec = tie.close (tie.spec (λ c κs. search needs) (λ c κs. search needs) (λ c κs. search needs) returns)
