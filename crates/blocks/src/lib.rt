@@ -1,5 +1,5 @@
 // Sixteen bytes of a text, asked at once: the compiler makes a few instructions of each loop here, so a text is passed over by blocks as long as
-// nothing begins in them.
+// nothing begins in them. A byte of the block that its caller read before keeps the compiler from that, so callers ask blocks in a loop of their own.
 ghost use mathlib.Core.Path.{_≡_};
 ghost use mathlib.Core.Bool.{true};
 ghost use Prim.Native.Nat.{_+_, _≤_};
