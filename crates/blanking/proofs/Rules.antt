@@ -11,8 +11,9 @@ use lib.ListN.{length, getD, take, drop, length-drop}
 use lib.Seq.{getD-drop, drop-drop}
 use Rattle.text_rules.specs.Bytes.{_orElse_}
 use Rattle.text_rules.specs.Classes.{apostrophe, backslash, isWord, letterB, letterR, lf, quote, slash, star}
-use Rattle.text_rules.specs.ScanLaws.{head-at, opens-at, orElse-zero, take-same}
+use Rattle.text_rules.specs.ScanLaws.{bytesBefore-more, head-at, opens-at, orElse-zero, take-same}
 use Rattle.text_rules.specs.Search.{bytesBefore, opens}
+use Rattle.text_rules.specs.SearchLaws.{in-text}
 use Rattle.source_rules.specs.Blank.{blockLength, blockToken, charToken, escapeToken, hashes, lineToken, rawLength, rawLetters, rawToken, stringLength, stringToken, tokenLength}
 
 -- a rule at the head of `d` whose first byte is not there
@@ -62,9 +63,22 @@ module _ (p : ℕ) (d : List ℕ) where
 -- each rule where it may fit
 module _ (s : List ℕ) (i : ℕ) where
   module _ (a : getD s i 0 ≡ slash) where
-    pub comment-line : getD s (i + 1) 0 ≡ slash → (lineToken (drop i s) orElse blockToken (drop i s)) ≡ bytesBefore lf (drop i s)
+    comment-line : getD s (i + 1) 0 ≡ slash → (lineToken (drop i s) orElse blockToken (drop i s)) ≡ bytesBefore lf (drop i s)
     unfolding lineToken blockToken
     comment-line e = rw (opens-at s i slash slash, opens-at s i slash star, a, e, lineToken, blockToken) (orElse-zero (bytesBefore lf (drop i s)))
+
+    -- the two slashes are before the LF
+    pub comment-rest : getD s (i + 1) 0 ≡ slash → (lineToken (drop i s) orElse blockToken (drop i s)) ≡ 2 + bytesBefore lf (drop (i + 2) s)
+    comment-rest e =
+        let h = in-text s (i + 1) (omega arith) in
+        let n : i + 1 + 1 ≡ i + 2 = omega arith in
+        omega (
+          arith,
+          comment-line e,
+          bytesBefore-more s i (omega arith) lf (λ x. omega arith),
+          bytesBefore-more s (i + 1) h lf (λ x. omega arith),
+          ap (λ j. bytesBefore lf (drop j s)) n,
+        )
 
     pub comment-block : getD s (i + 1) 0 ≡ star → (lineToken (drop i s) orElse blockToken (drop i s)) ≡ 2 + blockLength 0 0 (drop (i + 2) s)
     unfolding lineToken blockToken
@@ -171,9 +185,14 @@ module _ (s : List ℕ) (i : ℕ) where
         let h = head-at s i ∙ e in
         rw (line-other here (λ x. omega arith), block-other here (λ x. omega arith), raw-other p here (λ x. omega arith) (λ x. omega arith), string-other here (λ x. omega arith))
 
+    pub token-none : rawToken p here ≡ 0 → getD s i 0 ≢ slash → getD s i 0 ≢ quote → getD s i 0 ≢ apostrophe → tokenLength p here ≡ 0
+    unfolding tokenLength
+    token-none r a d e =
+        let h = sym (head-at s i) in
+        rw (line-other here (λ x. a (h ∙ x)), block-other here (λ x. a (h ∙ x)), r, string-other here (λ x. d (h ∙ x)), char-other here (λ x. e (h ∙ x)))
+
     -- no other byte begins a token
     pub token-other : getD s i 0 ≢ slash → getD s i 0 ≢ letterB → getD s i 0 ≢ letterR → getD s i 0 ≢ quote → getD s i 0 ≢ apostrophe → tokenLength p here ≡ 0
-    unfolding tokenLength
     token-other a b c d e =
         let h = sym (head-at s i) in
-        rw (line-other here (λ x. a (h ∙ x)), block-other here (λ x. a (h ∙ x)), raw-other p here (λ x. c (h ∙ x)) (λ x. b (h ∙ x)), string-other here (λ x. d (h ∙ x)), char-other here (λ x. e (h ∙ x)))
+        token-none (raw-other p here (λ x. c (h ∙ x)) (λ x. b (h ∙ x))) a d e

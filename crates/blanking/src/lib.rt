@@ -1,18 +1,18 @@
 // Blanking of Rust source text: comments and literals become spaces, newlines stay.
-// The byte at a place says which rules may fit there, so a byte that begins no token is looked at once. A token is first measured and then written as
-// spaces; each byte is passed a bounded number of times.
+// The byte at a place says which rules may fit there, so a byte that begins no token is looked at once, and blocks in which none begins are copied
+// whole. A token is first measured and then written as spaces; each byte is passed a bounded number of times.
 use answers::Answer;
 ghost use mathlib.Core.Path.{_≡_};
-ghost use mathlib.Core.Bool.{_&&_, false};
+ghost use mathlib.Core.Bool.{_&&_, true, false};
 ghost use mathlib.Core.List.{_∷_, _++_};
 ghost use Prim.Native.Nat.{_+_, _-_, _≤_, _<_, min};
 ghost use lib.Dec.{eqb};
 ghost use lib.ListN.{length, getD, take, drop};
 ghost use Rattle.text_rules.specs.Bytes.{_orElse_};
-ghost use Rattle.text_rules.specs.Classes.{apostrophe, slash};
+ghost use Rattle.text_rules.specs.Classes.{apostrophe, lf, slash};
 ghost use Rattle.text_rules.specs.Search.{bytesBefore, part};
 ghost use Rattle.source_rules.specs.Blank.{blanked, blockLength, blockToken, charToken, escapeToken, hashes, lineToken, put, rawLength, rawLetters, rawToken, stringLength, tokenLength};
-ghost use Rattle.blanking.specs.Contracts.{Answered, Steps, finished};
+ghost use Rattle.blanking.specs.Contracts.{AllBare, Answered, NoToken, Steps, finished};
 
 const LF: u8 = b'\n';
 
@@ -79,6 +79,21 @@ fn find(s: &[u8], x: u8) -> usize
     i
 }
 
+// Past the blocks at a place that have no LF.
+fn line_blocks(s: &[u8], from: usize) -> usize
+    requires { ⌜ from ≤ length (now s) ⌝ }
+    ensures { λ r. ⌜ (r ≤ length (now (s .entry))) × (from + bytesBefore lf (drop from (now (s .entry))) ≡ r + bytesBefore lf (drop r (now (s .entry)))) ⌝ }
+{
+    let mut at = from;
+    while blocks::WIDTH <= s.len() - at {
+        if !blocks::lacks(s, at, LF) {
+            return at;
+        }
+        at += blocks::WIDTH;
+    }
+    at
+}
+
 impl Cursor {
     // Past the hashes.
     fn hashes(self, s: &[u8]) -> Cursor
@@ -88,6 +103,21 @@ impl Cursor {
         let mut at = self.at;
         while at < s.len() {
             if s[at] != HASH {
+                return Cursor { at };
+            }
+            at += 1;
+        }
+        Cursor { at }
+    }
+
+    // Past a line comment whose slashes stand before.
+    fn line_body(self, s: &[u8]) -> Cursor
+        requires { ⌜ self .at ≤ length (now s) ⌝ }
+        ensures { λ r. ⌜ Steps (now (s .entry)) (self .at) (bytesBefore lf (drop (self .at) (now (s .entry)))) (r .at) ⌝ }
+    {
+        let mut at = line_blocks(s, self.at);
+        while at < s.len() {
+            if s[at] == LF {
                 return Cursor { at };
             }
             at += 1;
@@ -170,9 +200,7 @@ impl Cursor {
     {
         let at = self.at;
         match byte(s, at + 1) {
-            SLASH => Cursor {
-                at: at + find(&s[at..], LF),
-            },
+            SLASH => Cursor { at: at + 2 }.line_body(s),
             STAR => Cursor { at: at + 2 }.block_body(s),
             _ => self,
         }
@@ -298,6 +326,88 @@ impl Cursor {
     }
 }
 
+// Whether the block at a place has none of the bytes by which a token is told.
+fn bare_block(s: &[u8], at: usize) -> bool
+    requires { ⌜ at + 16 ≤ length (now s) ⌝ }
+    ensures { λ r. ⌜ (r ≡ true → AllBare (now (s .entry)) at (at + 16)) ⌝ }
+{
+    if !blocks::lacks(s, at, SLASH) {
+        return false;
+    }
+    if !blocks::lacks(s, at, QUOTE) {
+        return false;
+    }
+    if !blocks::lacks(s, at, APOSTROPHE) {
+        return false;
+    }
+    blocks::lacks(s, at, HASH)
+}
+
+// Past such blocks.
+fn bare_end(s: &[u8], from: usize) -> usize
+    requires { ⌜ from ≤ length (now s) ⌝ }
+    ensures { λ r. ⌜ (from ≤ r) × (r ≤ length (now (s .entry))) × AllBare (now (s .entry)) from r ⌝ }
+{
+    let mut at = from;
+    while blocks::WIDTH <= s.len() - at {
+        if !bare_block(s, at) {
+            return at;
+        }
+        at += blocks::WIDTH;
+    }
+    at
+}
+
+// Past bytes at which no token begins. The last two before a mark may be the letters of a raw opening, so they are left.
+fn plain_end(s: &[u8], from: usize) -> usize
+    requires { ⌜ from ≤ length (now s) ⌝ }
+    ensures { λ r. ⌜ (from ≤ r) × (r ≤ length (now (s .entry))) × NoToken (now (s .entry)) from r ⌝ }
+{
+    let to = bare_end(s, from);
+    if to - from < 2 {
+        return from;
+    }
+    to - 2
+}
+
+// Writes bytes at which no token begins.
+fn copy(text: &[u8], output: &mut [u8], from: usize, to: usize)
+    requires { ⌜ (from ≤ to) × (to ≤ length (now text)) × (length (now text) ≤ length (now output)) × NoToken (now text) from to ⌝ }
+    ensures { λ r. ⌜ finished (now (text .entry)) (now (output .exit)) to to ≡ finished (now (text .entry)) (now (output .entry)) from from ⌝ }
+{
+    let mut at = from;
+    while at < to {
+        output[at] = text[at];
+        at += 1;
+    }
+}
+
+impl Cursor {
+    // Writes token by token and byte by byte from here to `end`, or past it.
+    fn steps(self, text: &[u8], output: &mut [u8], end: usize) -> Cursor
+        requires { ⌜ (self .at ≤ end) × (end ≤ length (now text)) × (length (now text) ≤ length (now output)) ⌝ }
+        ensures { λ r. ⌜ (end ≤ r .at) × (r .at ≤ length (now (text .entry))) × (finished (now (text .entry)) (now (output .exit)) (r .at) (r .at) ≡ finished (now (text .entry)) (now (output .entry)) (self .at) (self .at)) ⌝ }
+    {
+        let mut here = self;
+        while here.at < end {
+            here = here.step(text, output);
+        }
+        here
+    }
+
+    // Writes the plain bytes here, and then sixteen bytes by steps: where tokens are dense, few blocks are asked.
+    fn pass(self, text: &[u8], output: &mut [u8]) -> Cursor
+        requires { ⌜ (self .at < length (now text)) × (length (now text) ≤ length (now output)) ⌝ }
+        ensures { λ r. ⌜ (self .at < r .at) × (r .at ≤ length (now (text .entry))) × (finished (now (text .entry)) (now (output .exit)) (r .at) (r .at) ≡ finished (now (text .entry)) (now (output .entry)) (self .at) (self .at)) ⌝ }
+    {
+        let at = self.at;
+        let to = plain_end(text, at);
+        copy(text, output, at, to);
+        let end = to + least(blocks::WIDTH, text.len() - to);
+        Cursor { at: to }.steps(text, output, end)
+    }
+}
+
 // The blanked text, in the place of the output's first bytes.
 fn blank_all(text: &[u8], output: &mut [u8])
     requires { ⌜ length (now text) ≤ length (now output) ⌝ }
@@ -305,7 +415,7 @@ fn blank_all(text: &[u8], output: &mut [u8])
 {
     let mut here = Cursor { at: 0 };
     while here.at < text.len() {
-        here = here.step(text, output);
+        here = here.pass(text, output);
     }
 }
 

@@ -1,5 +1,5 @@
 // Sixteen bytes of a text, asked at once: the compiler makes a few instructions of each loop here, so a text is passed over by blocks as long as
-// nothing begins in them.
+// nothing begins in them. A byte of the block that its caller read before keeps the compiler from that, so callers ask blocks in a loop of their own.
 ghost use mathlib.Core.Path.{_≡_};
 ghost use mathlib.Core.Bool.{true};
 ghost use Prim.Native.Nat.{_+_, _≤_};
@@ -25,24 +25,20 @@ pub fn lacks(s: &[u8], at: usize, x: u8) -> bool
     none
 }
 
-fn larger(a: u8, b: u8) -> u8
-    ensures { λ r. ⌜ (a ≤ r) × (b ≤ r) ⌝ }
-{
-    if a < b { b } else { a }
-}
-
-// Whether the block at a place is ASCII. The largest byte tells.
+// Whether the block at a place is ASCII. DEL, 127, counts as beyond: the compiler makes more instructions of a test of the highest bit.
 pub fn is_ascii(s: &[u8], at: usize) -> bool
     requires { ⌜ at + 16 ≤ length (now s) ⌝ }
     ensures { λ r. ⌜ (r ≡ true → Below 128 (now (s .entry)) at 16) ⌝ }
 {
-    let mut most: u8 = 0;
+    let mut all = true;
     let mut i: usize = 0;
     while i < WIDTH {
-        most = larger(most, s[at + i]);
+        if 127 <= s[at + i] {
+            all = false;
+        }
         i += 1;
     }
-    most < 128
+    all
 }
 
 // How many bytes of the block at a place are `x`.

@@ -1,13 +1,15 @@
 -- A character that begins at a place `at` of a text `s`: each byte that it asks for is read, and a byte past the end reads 0, which is in no range.
-use Prim.Native.Nat.{ℕ, suc, _+_, _-_, _≤_, _<_}
+use Prim.Native.Nat.{ℕ, zero, suc, _+_, _-_, _≤_, _<_}
 use mathlib.Core.Path.{_≡_, ap, sym, _∙_}
 use mathlib.Core.Logic.{_≢_, inl, inr}
 use mathlib.Core.Bool.{true, false, _&&_}
 use mathlib.Core.List.{List, [], _∷_}
+use native.Mathlib.Nat.{add-zero}
 use native.Mathlib.Omega.{arith}
 use lib.Dec.{lit≤, ltb}
 use lib.ListN.{List·getD-eq-default, drop, drop-of-length-le, getD, length}
 use borrow.Author.Tests.{leb-true, lt-leb, ltb-false, ltb-true}
+use Rattle.blocks.specs.Blocks.{Below}
 use Rattle.text_rules.specs.BytesLaws.{and-left, whether}
 use Rattle.text_rules.specs.ScanLaws.{split}
 use Rattle.text_rules.specs.SearchLaws.{in-text}
@@ -37,6 +39,13 @@ awaited-inside s i r h t = in-text s i (omega (arith, leb-true (r .low) (getD s 
 pub ascii-step : (s : List ℕ) (at : ℕ) → at < length s → getD s at 0 < 128 → isUtf8 (drop at s) ≡ isUtf8 (drop (at + 1) s)
 unfolding isUtf8
 ascii-step s at h a = ap (wellFormedAfter []) (split s at h) ∙ ascii-first (getD s at 0) (drop (at + 1) s) a
+
+-- so are several
+pub ascii-steps : (s : List ℕ) (at many : ℕ) → at + many ≤ length s → Below 128 s at many → isUtf8 (drop at s) ≡ isUtf8 (drop (at + many) s)
+ascii-steps s at zero h b = rw (add-zero at)
+ascii-steps s at (suc many) h b =
+    let e : at + many + 1 ≡ at + suc many = omega arith in
+    ascii-steps s at many (omega arith) (λ i k. b i (omega arith)) ∙ ascii-step s (at + many) (omega arith) (b many (omega arith)) ∙ ap (λ j. isUtf8 (drop j s)) e
 
 pub utf8-end : (s : List ℕ) (at : ℕ) → length s ≤ at → isUtf8 (drop at s) ≡ true
 unfolding isUtf8 wellFormedAfter

@@ -1,5 +1,5 @@
 // Well-formed UTF-8 by the Unicode Standard's table 3-7, and Unicode white space at the two ends of a text.
-// An ASCII byte is passed by one test. Any other byte begins a character that is read whole, so nothing is awaited between two turns of a loop.
+// ASCII bytes are passed sixteen at once where they can be. Any other byte begins a character that is read whole, so nothing is awaited between two turns of a loop.
 ghost use mathlib.Core.Path.{_≡_};
 ghost use mathlib.Core.Bool.{_&&_, _||_};
 ghost use mathlib.Core.List.{[], _∷_};
@@ -111,14 +111,51 @@ fn wide_length(s: &[u8], at: usize) -> usize
     4
 }
 
+// Past the blocks of ASCII that begin at a place.
+fn ascii_blocks(s: &[u8], from: usize) -> usize
+    requires { ⌜ from ≤ length (now s) ⌝ }
+    ensures { λ r. ⌜ (from ≤ r) × (r ≤ length (now (s .entry))) × (isUtf8 (drop from (now (s .entry))) ≡ isUtf8 (drop r (now (s .entry)))) ⌝ }
+{
+    let mut at = from;
+    while blocks::WIDTH <= s.len() - at {
+        if !blocks::is_ascii(s, at) {
+            return at;
+        }
+        at += blocks::WIDTH;
+    }
+    at
+}
+
+// A place in a text, and the last place where a block was asked.
+struct Place {
+    at: usize,
+    asked: usize,
+}
+
+// Past an ASCII byte, and past the blocks of ASCII behind it where none was asked in the last sixteen bytes.
+fn narrow(s: &[u8], at: usize, asked: usize) -> Place
+    requires { ⌜ (asked ≤ at) × (at < length (now s)) × (getD (now s) at 0 < 128) ⌝ }
+    ensures { λ r. ⌜ (at < r .at) × (r .asked ≤ r .at) × (r .at ≤ length (now (s .entry))) × (isUtf8 (drop at (now (s .entry))) ≡ isUtf8 (drop (r .at) (now (s .entry)))) ⌝ }
+{
+    let next = at + 1;
+    if next - asked < blocks::WIDTH {
+        return Place { at: next, asked };
+    }
+    let to = ascii_blocks(s, next);
+    Place { at: to, asked: to }
+}
+
 // Whether a text is well-formed UTF-8.
 pub fn is_utf8(s: &[u8]) -> bool
     ensures { λ r. ⌜ r ≡ isUtf8 (now (s .entry)) ⌝ }
 {
-    let mut at = 0;
+    let mut at = ascii_blocks(s, 0);
+    let mut asked = at;
     while at < s.len() {
         if s[at] < 128 {
-            at += 1;
+            let to = narrow(s, at, asked);
+            at = to.at;
+            asked = to.asked;
         } else {
             let n = wide_length(s, at);
             if n == 0 {

@@ -1,4 +1,4 @@
--- `blanking::blank_all` meets its contract: each step leaves the finished output the same, and at the end of the text that is the output itself.
+-- `blanking::blank_all` meets its contract: each turn leaves the finished output the same, and at the end of the text that is the output itself.
 use Prim.Native.Nat.{_-_, _≤_}
 use mathlib.Core.Path.{_∙_, _≡_, refl, sym}
 use native.Mathlib.Omega.{arith}
@@ -21,7 +21,7 @@ loop-holds c = (omega arith, refl, refl)
 loop-again : tie.Need-loop-again Inv-loop μ-loop
 loop-again c = let t = c .before .before in
     let l = t .before .before .before .before in
-    (omega arith, search needs, t .step .ensures .2 ∙ l .loop .inv .2)
+    (omega arith, search needs, t .pass .ensures .2 ∙ l .loop .inv .2)
 
 returns : tie.Need-returns Inv-loop μ-loop
 returns c = let l = c .before .before in

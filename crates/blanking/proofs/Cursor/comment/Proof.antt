@@ -1,15 +1,18 @@
 -- `blanking::Cursor::comment` meets its contract: after a slash the next byte decides which comment opens, if any.
-use mathlib.Core.Path.{_∙_, ap, sym}
+use mathlib.Core.Path.{_∙_, sym}
 use Prim.Native.Nat.{_+_}
 use native.Mathlib.Omega.{arith}
-use lib.ListN.{length, length-drop}
-use Rattle.text_rules.specs.Search.{bytesBefore}
 use Rattle.text_rules.specs.SearchLaws.{in-text}
-use Rattle.text_rules.specs.ScanLaws.{rest-part}
-use Rattle.blanking.proofs.Rules.{comment-block, comment-line, comment-none}
+use Rattle.blanking.proofs.Rules.{comment-block, comment-none, comment-rest}
 use borrow.Author.Needs.{needs}
 use Rattle.blanking.proofs.Cursor.comment.Statement.{statement}
 use Rattle.blanking.proofs.Cursor.comment.Tie as tie
+
+line-body-requires : tie.Need-line-body-requires
+line-body-requires c κs = let b = c .before in
+    let a = b .before .before .args in
+    let e = sym (b .byte .ensures) ∙ c .match .keys1 in
+    omega (arith, in-text (a .s .now) (a .self .at + 1) (omega arith))
 
 block-body-requires : tie.Need-block-body-requires
 block-body-requires c κs = let b = c .before in
@@ -18,11 +21,10 @@ block-body-requires c κs = let b = c .before in
     omega (arith, in-text (a .s .now) (a .self .at + 1) (omega arith))
 
 returns : tie.Need-returns
-returns c = let m = c .before .before in
+returns c = let m = c .before in
     let f = m .before .before .before in
     let a = f .args in
-    let p = rest-part (a .s .now) (a .self .at) in
-    omega (arith, comment-line (a .s .now) (a .self .at) (f .pre .1) (sym (m .before .byte .ensures) ∙ m .match .keys1), ap (bytesBefore 10) p, ap length p, length-drop (a .self .at) (a .s .now))
+    omega (arith, comment-rest (a .s .now) (a .self .at) (f .pre .1) (sym (m .before .byte .ensures) ∙ m .match .keys1))
 
 returns-2 : tie.Need-returns-2
 returns-2 c = let m = c .before in
@@ -43,10 +45,7 @@ comment-spec =
     (λ c. search needs)
     (λ c κs. search needs)
     (λ c. search needs)
-    (λ c. search needs)
-    (λ c. search needs)
-    (λ c κs. search needs)
-    (λ c. search needs)
+    line-body-requires
     (λ c. search needs)
     block-body-requires
     returns
