@@ -6,14 +6,14 @@ use measures::BodyAt;
 use search::Learnt;
 use search::Place;
 ghost use mathlib.Core.Path.{_≡_};
-ghost use mathlib.Core.Logic.{_≢_};
 ghost use mathlib.Core.Bool.{true};
 ghost use Prim.Native.Nat.{_+_, _≤_, _<_};
 ghost use lib.ListN.{length, getD};
-ghost use Rattle.text_rules.specs.Classes.{braceOpen, hash};
+ghost use Rattle.text_rules.specs.Classes.{braceOpen};
+ghost use Rattle.blocks.specs.Blocks.{Every};
 ghost use Rattle.search.specs.Place.{Learned};
 ghost use Rattle.source_rules.specs.TextScan.{functions};
-ghost use Rattle.source.specs.Cursors.{Barren, Blocked, Closed, FoundAt, Measures, Quieter, Ready, Signed, SpanAt, Stepped, Turned, remaining};
+ghost use Rattle.source.specs.Cursors.{Any, Barren, Blocked, Closed, FoundAt, Measures, Neither, Passed, Quieter, Ready, Signed, SpanAt, Stepped, Turned, remaining};
 
 // Where the search for functions stands in a text.
 pub struct Cursor {
@@ -207,41 +207,110 @@ fn found_at(s: &[u8], line: usize, from: usize, to: usize, b: Brackets) -> Found
     }
 }
 
-// Whether a byte begins neither the mark of test code nor a word `fn`.
-fn is_quiet(b: u8) -> bool
-    ensures { λ r. ⌜ (r ≡ true → (b ≢ hash) × (b ≢ 102)) ⌝ }
-{
-    if b == b'#' {
-        return false;
-    }
-    if b == b'f' {
-        return false;
-    }
-    true
-}
-
 // A place, and its line.
 struct Spot {
     at: usize,
     line: usize,
 }
 
-// The next byte that is not quiet, or the end of the text.
-fn quiet_end(s: &[u8], from: usize, start: usize) -> Spot
-    requires { ⌜ (from ≤ length (now s)) × (start ≤ from + 1) ⌝ }
-    ensures { λ r. ⌜ Quieter (now (s .entry)) from start r ⌝ }
+fn least(a: usize, b: usize) -> usize
+    ensures { λ r. ⌜ (r ≤ a) × (r ≤ b) ⌝ }
+{
+    if a < b { a } else { b }
+}
+
+// Whether no byte of the block at a place is one of two, which may be the same.
+fn lacks_both(s: &[u8], at: usize, x: u8, y: u8) -> bool
+    requires { ⌜ at + 16 ≤ length (now s) ⌝ }
+    ensures { λ r. ⌜ (r ≡ true → Every (Neither x y) (now (s .entry)) at 16) ⌝ }
+{
+    if !blocks::lacks(s, at, x) {
+        return false;
+    }
+    if x == y {
+        return true;
+    }
+    blocks::lacks(s, at, y)
+}
+
+// Past the block at a place, where neither byte stands in it, or else past the byte there, unless it is one of the two. Blocks begin at every
+// sixteenth place only, so that no byte is asked for in two of them.
+fn pass_some(s: &[u8], at: usize, line: usize, to: usize, x: u8, y: u8) -> Spot
+    requires { ⌜ (at < to) × (to ≤ length (now s)) × (line ≤ at + 1) ⌝ }
+    ensures { λ r. ⌜ Passed (Neither x y) (now (s .entry)) at line to r ⌝ }
+{
+    if at % blocks::WIDTH == 0 {
+        if blocks::WIDTH <= to - at {
+            if lacks_both(s, at, x, y) {
+                let n = blocks::count(s, at, b'\n');
+                return Spot {
+                    at: at + blocks::WIDTH,
+                    line: line + n,
+                };
+            }
+        }
+    }
+    let b = s[at];
+    if b == x {
+        return Spot { at, line };
+    }
+    if b == y {
+        return Spot { at, line };
+    }
+    let next = search::count_after(b'\n', b, line);
+    Spot {
+        at: at + 1,
+        line: next,
+    }
+}
+
+// The next byte that is one of two, or the given place.
+fn pass_others(s: &[u8], from: usize, start: usize, to: usize, x: u8, y: u8) -> Spot
+    requires { ⌜ (to ≤ length (now s)) × (start ≤ from + 1) ⌝ }
+    ensures { λ r. ⌜ Passed (Neither x y) (now (s .entry)) from start to r ⌝ }
 {
     let mut at = from;
     let mut line = start;
-    while at < s.len() {
-        let b = s[at];
-        if !is_quiet(b) {
-            return Spot { at, line };
+    while at < to {
+        let q = pass_some(s, at, line, to, x, y);
+        if q.at == at {
+            return q;
         }
-        line = search::count_after(b'\n', b, line);
-        at += 1;
+        at = q.at;
+        line = q.line;
     }
     Spot { at, line }
+}
+
+// A place further on, with the lines counted.
+fn pass_all(s: &[u8], from: usize, start: usize, to: usize) -> Spot
+    requires { ⌜ (to ≤ length (now s)) × (start ≤ from + 1) ⌝ }
+    ensures { λ r. ⌜ Passed Any (now (s .entry)) from start to r ⌝ }
+{
+    let mut at = from;
+    let mut line = start;
+    while at < to {
+        if to - at < blocks::WIDTH {
+            line = search::count_after(b'\n', s[at], line);
+            at += 1;
+        } else {
+            let n = blocks::count(s, at, b'\n');
+            line += n;
+            at += blocks::WIDTH;
+        }
+    }
+    Spot { at, line }
+}
+
+// The next byte at which a test span or a function may begin, or the end of the text. In a test span neither is sought, in a body no function.
+fn quiet_end(s: &[u8], from: usize, start: usize, span_end: usize, resume: usize) -> Spot
+    requires { ⌜ (from ≤ length (now s)) × (start ≤ from + 1) ⌝ }
+    ensures { λ r. ⌜ Quieter (now (s .entry)) from start «span_end» resume r ⌝ }
+{
+    let n = s.len();
+    let a = pass_all(s, from, start, least(span_end, n));
+    let b = pass_others(s, a.at, a.line, least(resume, n), b'#', b'#');
+    pass_others(s, b.at, b.line, n, b'#', b'f')
 }
 
 // The start of a text.
@@ -383,7 +452,7 @@ impl Cursor {
     {
         let mut c = self;
         while c.at < s.len() {
-            let q = quiet_end(s, c.at, c.line);
+            let q = quiet_end(s, c.at, c.line, c.span_end, c.resume);
             c.at = q.at;
             c.line = q.line;
             if c.at == s.len() {
