@@ -233,53 +233,56 @@ fn lacks_both(s: &[u8], at: usize, x: u8, y: u8) -> bool
     blocks::lacks(s, at, y)
 }
 
-// Past the block at a place, where neither byte stands in it, or else past the byte there, unless it is one of the two. Blocks begin at every
-// sixteenth place only, so that no byte is asked for in two of them.
-fn pass_some(s: &[u8], at: usize, line: usize, to: usize, x: u8, y: u8) -> Spot
-    requires { ⌜ (at < to) × (to ≤ length (now s)) × (line ≤ at + 1) ⌝ }
-    ensures { λ r. ⌜ Passed (Neither x y) (now (s .entry)) at line to r ⌝ }
-{
-    if at % blocks::WIDTH == 0 {
-        if blocks::WIDTH <= to - at {
-            if lacks_both(s, at, x, y) {
-                let n = blocks::count(s, at, b'\n');
-                return Spot {
-                    at: at + blocks::WIDTH,
-                    line: line + n,
-                };
-            }
-        }
-    }
-    let b = s[at];
-    if b == x {
-        return Spot { at, line };
-    }
-    if b == y {
-        return Spot { at, line };
-    }
-    let next = search::count_after(b'\n', b, line);
-    Spot {
-        at: at + 1,
-        line: next,
-    }
-}
-
-// The next byte that is one of two, or the given place.
-fn pass_others(s: &[u8], from: usize, start: usize, to: usize, x: u8, y: u8) -> Spot
+// Past whole blocks in which neither of two bytes stands.
+fn pass_blocks(s: &[u8], from: usize, start: usize, to: usize, x: u8, y: u8) -> Spot
     requires { ⌜ (to ≤ length (now s)) × (start ≤ from + 1) ⌝ }
     ensures { λ r. ⌜ Passed (Neither x y) (now (s .entry)) from start to r ⌝ }
 {
     let mut at = from;
     let mut line = start;
     while at < to {
-        let q = pass_some(s, at, line, to, x, y);
-        if q.at == at {
-            return q;
+        if to - at < blocks::WIDTH {
+            return Spot { at, line };
         }
-        at = q.at;
-        line = q.line;
+        if !lacks_both(s, at, x, y) {
+            return Spot { at, line };
+        }
+        let n = blocks::count(s, at, b'\n');
+        line += n;
+        at += blocks::WIDTH;
     }
     Spot { at, line }
+}
+
+// Past bytes that are neither of two.
+fn pass_bytes(s: &[u8], from: usize, start: usize, to: usize, x: u8, y: u8) -> Spot
+    requires { ⌜ (to ≤ length (now s)) × (start ≤ from + 1) ⌝ }
+    ensures { λ r. ⌜ Passed (Neither x y) (now (s .entry)) from start to r ⌝ }
+{
+    let mut at = from;
+    let mut line = start;
+    while at < to {
+        let b = s[at];
+        if b == x {
+            return Spot { at, line };
+        }
+        if b == y {
+            return Spot { at, line };
+        }
+        line = search::count_after(b'\n', b, line);
+        at += 1;
+    }
+    Spot { at, line }
+}
+
+// The next byte that is one of two, or the given place. Blocks and bytes have a loop each: in one loop for both the compiler reads the first byte
+// of a block by itself, and no longer the sixteen at once. The block at which the first loop ends has one of the bytes, so the second is short.
+fn pass_others(s: &[u8], from: usize, start: usize, to: usize, x: u8, y: u8) -> Spot
+    requires { ⌜ (to ≤ length (now s)) × (start ≤ from + 1) ⌝ }
+    ensures { λ r. ⌜ Passed (Neither x y) (now (s .entry)) from start to r ⌝ }
+{
+    let q = pass_blocks(s, from, start, to, x, y);
+    pass_bytes(s, q.at, q.line, to, x, y)
 }
 
 // A place further on, with the lines counted.
@@ -290,13 +293,13 @@ fn pass_all(s: &[u8], from: usize, start: usize, to: usize) -> Spot
     let mut at = from;
     let mut line = start;
     while at < to {
-        if to - at < blocks::WIDTH {
-            line = search::count_after(b'\n', s[at], line);
-            at += 1;
-        } else {
+        if blocks::WIDTH <= to - at {
             let n = blocks::count(s, at, b'\n');
             line += n;
             at += blocks::WIDTH;
+        } else {
+            line = search::count_after(b'\n', s[at], line);
+            at += 1;
         }
     }
     Spot { at, line }

@@ -17,20 +17,20 @@ loop-holds c = let b = c .before in let a = b .args in (passed-none Any (a .s .n
 
 loop-again : tie.Need-loop-again Inv-loop μ-loop
 loop-again c =
-    let l = c .before .before .before .before in
-    let a = l .before .before .args in (
-      passed-more Any (a .s .now) (a .from) (a .start) (a .to) _ _ (l .loop .inv .0)
-          (passed-byte Any (a .s .now) (l .loop .at) (l .loop .line) (a .to) (omega arith) tt (c .count-after .result) (c .count-after .ensures .0)),
-      omega (arith, l .loop .inv .1, c .count-after .ensures .1),
-    )
-
-loop-again-2 : tie.Need-loop-again-2 Inv-loop μ-loop
-loop-again-2 c =
     let l = c .before .before .before in
     let a = l .before .before .args in (
       passed-more Any (a .s .now) (a .from) (a .start) (a .to) _ _ (l .loop .inv .0)
           (passed-block Any (a .s .now) (l .loop .at) (l .loop .line) (a .to) 16 (omega arith) (λ i k. tt) (c .count .result) (c .count .ensures .0)),
       omega (arith, l .loop .inv .1, c .count .ensures .1),
+    )
+
+loop-again-2 : tie.Need-loop-again-2 Inv-loop μ-loop
+loop-again-2 c =
+    let l = c .before .before .before .before in
+    let a = l .before .before .args in (
+      passed-more Any (a .s .now) (a .from) (a .start) (a .to) _ _ (l .loop .inv .0)
+          (passed-byte Any (a .s .now) (l .loop .at) (l .loop .line) (a .to) (omega arith) tt (c .count-after .result) (c .count-after .ensures .0)),
+      omega (arith, l .loop .inv .1, c .count-after .ensures .1),
     )
 
 pub pass-all-spec : {M : Type 1} → statement M
@@ -41,13 +41,13 @@ pass-all-spec =
     μ-loop
     loop-holds
     (λ c. omega arith)
-    (λ c. omega arith)
     (λ c κs. omega arith)
+    (λ c. omega arith)
     (λ c. omega arith)
     (λ c. omega arith)
     loop-again
-    (λ c κs. omega arith)
     (λ c. omega arith)
+    (λ c κs. omega arith)
     (λ c. omega arith)
     (λ c. omega arith)
     loop-again-2
