@@ -151,6 +151,17 @@ quiet s c h ready calm line e = passes s c h ready span here line e none-here (c
           ]
         ]
 
+-- the places at which nothing begins: in a span every one, in a body those without #, and anywhere those without # and f
+module _ (s : List ℕ) (spanEnd resume at : ℕ) where
+  pub calm-span : at < spanEnd → Calm s spanEnd resume at
+  calm-span h = record { no-mark = λ k. absurd (omega arith); no-word = λ k j. absurd (omega arith) }
+
+  pub calm-body : at < resume → getD s at 0 ≢ hash → Calm s spanEnd resume at
+  calm-body h m = record { no-mark = λ k. m; no-word = λ k j. absurd (omega arith) }
+
+  pub calm-byte : (getD s at 0 ≢ hash) × (getD s at 0 ≢ 102) → Calm s spanEnd resume at
+  calm-byte (m, n) = record { no-mark = λ k. m; no-word = λ k j. n }
+
 -- a cursor goes on past quiet bytes
 module _ (s : List ℕ) (from start spanEnd resume : ℕ) where
   pub quieter-here : from ≤ length s → start ≤ from + 1 → Quieter s from start spanEnd resume (record { at = from; line = start })

@@ -1,6 +1,6 @@
 // The functions of a blanked text, found and measured one after another.
-// The text is gone through byte by byte, bodies and test spans included: a test span may begin inside a body and reach past it, so no body is
-// jumped over.
+// The text is gone through to its end, bodies and test spans included: a test span may begin inside a body and reach past it, so no body is jumped
+// over. Bytes at which nothing can begin are passed in blocks of sixteen.
 use measures::Body;
 use measures::BodyAt;
 use search::Learnt;

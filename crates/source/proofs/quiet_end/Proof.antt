@@ -5,7 +5,7 @@ use borrow.Author.Needs.{needs}
 use lib.ListN.{length}
 use Rattle.text_rules.specs.Classes.{hash}
 use Rattle.source.specs.Cursors.{Any, Neither}
-use Rattle.source.specs.Steps.{passed-line, quieter-here, quieter-on}
+use Rattle.source.specs.Steps.{calm-body, calm-byte, calm-span, passed-line, quieter-here, quieter-on}
 use Rattle.source.proofs.quiet_end.Statement.{statement}
 use Rattle.source.proofs.quiet_end.Tie as tie
 
@@ -30,15 +30,16 @@ returns c =
     let o = c .before in
     let l = o .before in
     let p = l .before in
-    let b = p .before .before .before in
+    let k = p .before in
+    let b = k .before .before in
     let s = b .args .s .now in
     let spanEnd = b .args .span-end in
     let resume = b .args .resume in
     let on = quieter-on s (b .args .from) (b .args .start) spanEnd resume in
     let none = quieter-here s (b .args .from) (b .args .start) spanEnd resume (b .pre .0) (b .pre .1) in
-    let span = on Any _ none (p .before .least .result) (p .before .least .ensures .1) (λ at h x. record { no-mark = λ k. absurd (omega (arith, p .before .least .ensures .0)); no-word = λ k j. absurd (omega (arith, p .before .least .ensures .0)) }) (p .pass-all .result) (p .pass-all .ensures) in
-    let body = on (Neither hash hash) _ span (l .least2 .result) (l .least2 .ensures .1) (λ at h x. record { no-mark = λ k. x .0; no-word = λ k j. absurd (omega (arith, l .least2 .ensures .0)) }) (o .pass-others .result) (o .pass-others .ensures) in
-    on (Neither hash 102) _ body (length s) (omega arith) (λ at h x. record { no-mark = λ k. x .0; no-word = λ k j. x .1 }) (c .pass-others2 .result) (c .pass-others2 .ensures)
+    let span = on Any _ none (k .least .result) (k .least .ensures .1) (λ at h x. calm-span s spanEnd resume at (omega (arith, k .least .ensures .0))) (p .pass-all .result) (p .pass-all .ensures) in
+    let body = on (Neither hash hash) _ span (l .least2 .result) (l .least2 .ensures .1) (λ at h x. calm-body s spanEnd resume at (omega (arith, l .least2 .ensures .0)) (x .0)) (o .pass-others .result) (o .pass-others .ensures) in
+    on (Neither hash 102) _ body (length s) (omega arith) (λ at h x. calm-byte s spanEnd resume at x) (c .pass-others2 .result) (c .pass-others2 .ensures)
 
 pub quiet-end-spec : {M : Type 1} → statement M
 quiet-end-spec =
