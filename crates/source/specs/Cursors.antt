@@ -1,11 +1,12 @@
 -- What a cursor stands for, and what the steps of the search answer.
 use Prim.Native.Nat.{ℕ, _+_, _-_, _≤_, _<_}
 use mathlib.Core.Path.{_≡_}
+use mathlib.Core.Logic.{_≢_}
 use mathlib.Core.List.{List, [], _∷_}
 use mathlib.Core.Option.{none, some}
-use lib.ListN.{length, take, drop}
+use lib.ListN.{length, take, drop, getD}
 use Rattle.text_rules.specs.Bytes.{_orElse_}
-use Rattle.text_rules.specs.Classes.{braceClose, braceOpen}
+use Rattle.text_rules.specs.Classes.{braceClose, braceOpen, hash, lf}
 use Rattle.text_rules.specs.Search.{part}
 use Rattle.source_rules.specs.Brackets.{partner}
 use Rattle.source_rules.specs.Finding.{Places, functionAt, functionFrom, spanLength}
@@ -15,6 +16,7 @@ use Rattle.source_rules.specs.PlaceLaws.{blockFrom, placesAt}
 use Rattle.source_rules.specs.TextScan.{TextFun, functionsFrom, measured}
 use Rattle.source_rules.specs.TextScanLaws.{Fine}
 use Rattle.source_rules.specs.TextScanSteps.{byteBefore}
+use Rattle.blocks.specs.Blocks.{Every, countFrom}
 use Rattle.search.specs.Place.{Learned}
 use Rattle.measures.specs.Walks.{MeasuredBody}
 use Rattle.source.specs.declared.Block.{Block}
@@ -92,12 +94,31 @@ pub record Passes (s : List ℕ) (c d : Cursor) : Type 0 where
 abbrev pub movedTo : Cursor → ℕ → ℕ → Cursor
 movedTo c at line = record { at = at; line = line; «span_end» = c .«span_end»; resume = c .resume; spanless = c .spanless; «barren_from» = c .«barren_from»; «barren_to» = c .«barren_to»; learnt = c .learnt }
 
--- from one place to another stand only bytes at which nothing begins: a cursor may go there
-pub record Quieter (s : List ℕ) (from start : ℕ) (r : Spot) : Type 0 where
+-- nothing begins at a place: no test span, where none is open, and no function, where neither a span nor a body is
+pub record Calm (s : List ℕ) (spanEnd resume at : ℕ) : Type 0 where
+  pub no-mark : spanEnd ≤ at → getD s at 0 ≢ hash
+  pub no-word : spanEnd ≤ at → resume ≤ at → getD s at 0 ≢ 102
+
+-- only bytes at which nothing begins stand from one place to another: a cursor may go there
+pub record Quieter (s : List ℕ) (from start spanEnd resume : ℕ) (r : Spot) : Type 0 where
   pub further : from ≤ r .at
   pub inside : r .at ≤ length s
   pub line-most : r .line ≤ r .at + 1
-  pub passes : (c : Cursor) → c .at ≡ from → c .line ≡ start → Ready s c → Ready s (movedTo c (r .at) (r .line)) × (remaining s c ≡ remaining s (movedTo c (r .at) (r .line)))
+  pub passes : (c : Cursor) → c .at ≡ from → c .line ≡ start → c .«span_end» ≡ spanEnd → c .resume ≡ resume → Ready s c → Ready s (movedTo c (r .at) (r .line)) × (remaining s c ≡ remaining s (movedTo c (r .at) (r .line)))
+
+abbrev pub Neither : (x y b : ℕ) → Type 0
+Neither x y b = (b ≢ x) × (b ≢ y)
+
+abbrev pub Any : ℕ → Type 0
+Any b = Unit {0}
+
+-- bytes before a place are passed, each of them one that may be, with the lines counted
+pub record Passed (P : ℕ → Type 0) (s : List ℕ) (from start to : ℕ) (r : Spot) : Type 0 where
+  pub many : ℕ
+  pub at-is : r .at ≡ from + many
+  pub line-is : r .line ≡ start + countFrom lf s from many
+  pub each : Every P s from many
+  pub before : 0 < many → r .at ≤ to
 
 abbrev pub Stepped : List ℕ → Cursor → Step → Type 0
 Stepped s c (Function f d) = Yields s c f d

@@ -1,14 +1,16 @@
 -- The step of the search at a byte, in places of the whole text.
 use Prim.Native.Nat.{ℕ, zero, suc, pred, _+_, _-_, _≤_, _<_}
 use mathlib.Core.Path.{_≡_, refl, ap, sym, subst, _∙_}
-use mathlib.Core.Logic.{_≢_}
+use mathlib.Core.Logic.{_≢_, inl, inr}
 use mathlib.Core.List.{List, [], _∷_}
 use mathlib.Core.Option.{Option, none, some}
 use native.Mathlib.Numerals.{sub-one, add-one}
 use native.Mathlib.Omega.{arith}
-use borrow.Author.Tests.{le-ltb}
+use borrow.Author.Tests.{le-ltb, ltb-false, ltb-true}
 use lib.ListN.{length, take, drop, getD}
+use lib.Dec.{ltb}
 use Rattle.text_rules.specs.Bytes.{_orElse_}
+use Rattle.text_rules.specs.BytesLaws.{whether}
 use Rattle.text_rules.specs.Classes.{hash, isSpace, isWord, lf}
 use Rattle.text_rules.specs.Search.{countAfter, part, run}
 use Rattle.source_rules.specs.Finding.{Places, functionAt, functionFrom, nameEnd, nameStart, spanLength}
@@ -20,14 +22,16 @@ use Rattle.source_rules.specs.PlaceLaws.{movedPlaces, part-rest, placesAt}
 use Rattle.source_rules.specs.TextScan.{TextFun, functionsFrom, measured, sought}
 use Rattle.source_rules.specs.TextScanLaws.{Fine, Here, fine}
 use Rattle.source_rules.specs.TextScanSteps.{byteBefore, function-at, functions-past, name-from, name-to, no-function, no-hash, other-byte}
-use Rattle.source_rules.specs.WalkSteps.{functions-end, functions-some, sought-no-word}
+use Rattle.source_rules.specs.WalkSteps.{functions-end, functions-some, sought-in-span, sought-no-word, sought-skipped}
+use Rattle.blocks.specs.Blocks.{Every, count-behind, count-most, count-none, count-one, count-sum, countFrom, every-one, every-sum}
 use Rattle.search.specs.Place.{Learned}
 use Rattle.search.specs.declared.Learnt.{Learnt}
-use Rattle.source.specs.Cursors.{Barren, Closed, FoundAt, MeasuredAt, Passes, Quieter, Ready, SpanAt, Spanless, Yields, movedTo, remaining, remainingAt, textFun}
+use Rattle.source.specs.Cursors.{Barren, Calm, Closed, FoundAt, MeasuredAt, Passed, Passes, Quieter, Ready, SpanAt, Spanless, Yields, movedTo, remaining, remainingAt, textFun}
 use Rattle.source.specs.declared.Brackets.{Brackets}
 use Rattle.source.specs.declared.Cursor.{Cursor}
 use Rattle.source.specs.declared.Found.{Found}
 use Rattle.source.specs.declared.Span.{Span}
+use Rattle.source.specs.declared.Spot.{Spot}
 
 -- `end` is where the span at the byte ends
 module _ (s : List ℕ) (at line spanEnd resume end : ℕ) (h : at < length s) (e : end - at ≡ (spanEnd - at) orElse spanLength (drop at s)) where
@@ -117,39 +121,130 @@ module _ (s : List ℕ) (c : Cursor) (h : c .at < length s) (ready : Ready s c) 
         fine = g;
       }
 
--- past a byte that begins neither a mark nor a word fn: only the place and the line change
-pub quiet : (s : List ℕ) (c : Cursor) → c .at < length s → Ready s c → (getD s (c .at) 0 ≢ hash) × (getD s (c .at) 0 ≢ 102) → (line : ℕ) → line ≡ countAfter lf (getD s (c .at) 0) (c .line)
-    → Passes s c
-    (record { at = c .at + 1; line = line; «span_end» = c .«span_end»; resume = c .resume; spanless = c .spanless; «barren_from» = c .«barren_from»; «barren_to» = c .«barren_to»; learnt = c .learnt })
-quiet s c h ready (m, n) line e =
-    let span : Span = record { end = c .«span_end»; spanless = c .spanless; learnt = c .learnt } in
-    let here : SpanAt s c span = record { left = span-none (c .«span_end» - c .at) _ (no-hash s (c .at) h m); no-span = ready .no-span; learned = ready .learned } in
-    passes s c h ready span here line e
-    (sought-no-word (c .«span_end» - c .at) (c .resume - c .at) (byteBefore s (c .at)) (drop (c .at) s) (other-byte s (c .at) h (byteBefore s (c .at)) n))
-    (c .«barren_from») (c .«barren_to») (c .learnt) (ready .no-function) (ready .learned)
-
--- quiet bytes, one after another
-pub quieter-here : (s : List ℕ) (from start : ℕ) → from ≤ length s → start ≤ from + 1 → Quieter s from start (record { at = from; line = start })
-quieter-here s from start h k =
-    record {
-      further = omega arith;
-      inside = h;
-      line-most = k;
-      passes = λ c e d r. subst (λ at. Goes c at start) e (subst (λ line. Goes c (c .at) line) d (r, refl));
-    }
+-- past a byte at which nothing begins: only the place and the line change
+pub quiet : (s : List ℕ) (c : Cursor) → c .at < length s → Ready s c → Calm s (c .«span_end») (c .resume) (c .at) → (line : ℕ) → line ≡ countAfter lf (getD s (c .at) 0) (c .line)
+    → Passes s c (movedTo c (c .at + 1) line)
+quiet s c h ready calm line e = passes s c h ready span here line e none-here (c .«barren_from») (c .«barren_to») (c .learnt) (ready .no-function) (ready .learned)
   where
-    Goes : Cursor → ℕ → ℕ → Type 0
-    Goes c at line = Ready s (movedTo c at line) × (remaining s c ≡ remaining s (movedTo c at line))
+    span : Span
+    span = record { end = c .«span_end»; spanless = c .spanless; learnt = c .learnt }
 
-pub quieter-next : (s : List ℕ) (from start at line : ℕ) → Quieter s from start (record { at = at; line = line }) → at < length s → (getD s at 0 ≢ hash) × (getD s at 0 ≢ 102) → (next : ℕ) → next ≡ countAfter lf (getD s at 0) line
-    → Quieter s from start (record { at = at + 1; line = next })
-quieter-next s from start at line q h n next e =
-    record {
-      further = omega (arith, q .further);
-      inside = omega arith;
-      line-most = omega (arith, q .line-most, count-after lf (getD s at 0) line);
-      passes = λ c i j r. let (k, m) = q .passes c i j r in let p = quiet s (movedTo c at line) h k n next e in (p .ready, m ∙ p .same);
-    }
+    left : c .«span_end» - c .at ≡ (c .«span_end» - c .at) orElse spanLength (drop (c .at) s)
+    left =
+        elim (whether (ltb (c .at) (c .«span_end»))) [
+          | inl t ↦ span-open (c .«span_end» - c .at) _ (omega (arith, ltb-true (c .at) (c .«span_end») t))
+          | inr t ↦ span-none (c .«span_end» - c .at) _ (no-hash s (c .at) h (calm .no-mark (ltb-false (c .at) (c .«span_end») t)))
+        ]
+
+    here : SpanAt s c span
+    here = record { left = left; no-span = ready .no-span; learned = ready .learned }
+
+    none-here : sought (c .«span_end» - c .at) (c .resume - c .at) (byteBefore s (c .at)) (drop (c .at) s) ≡ none
+    none-here =
+        elim (whether (ltb (c .at) (c .«span_end»))) [
+          | inl t ↦ sought-in-span (c .«span_end» - c .at) (c .resume - c .at) (byteBefore s (c .at)) (drop (c .at) s) (λ z. omega (arith, ltb-true (c .at) (c .«span_end») t))
+          | inr t ↦ elim (whether (ltb (c .at) (c .resume))) [
+            | inl u ↦ sought-skipped (c .«span_end» - c .at) (c .resume - c .at) (byteBefore s (c .at)) (drop (c .at) s) (λ z. omega (arith, ltb-true (c .at) (c .resume) u))
+            | inr u ↦
+                sought-no-word (c .«span_end» - c .at) (c .resume - c .at) (byteBefore s (c .at)) (drop (c .at) s)
+                (other-byte s (c .at) h (byteBefore s (c .at)) (calm .no-word (ltb-false (c .at) (c .«span_end») t) (ltb-false (c .at) (c .resume) u)))
+          ]
+        ]
+
+-- the places at which nothing begins: in a span every one, in a body those without #, and anywhere those without # and f
+module _ (s : List ℕ) (spanEnd resume at : ℕ) where
+  pub calm-span : at < spanEnd → Calm s spanEnd resume at
+  calm-span h = record { no-mark = λ k. absurd (omega arith); no-word = λ k j. absurd (omega arith) }
+
+  pub calm-body : at < resume → getD s at 0 ≢ hash → Calm s spanEnd resume at
+  calm-body h m = record { no-mark = λ k. m; no-word = λ k j. absurd (omega arith) }
+
+  pub calm-byte : (getD s at 0 ≢ hash) × (getD s at 0 ≢ 102) → Calm s spanEnd resume at
+  calm-byte (m, n) = record { no-mark = λ k. m; no-word = λ k j. n }
+
+-- a cursor goes on past quiet bytes
+module _ (s : List ℕ) (from start spanEnd resume : ℕ) where
+  pub quieter-here : from ≤ length s → start ≤ from + 1 → Quieter s from start spanEnd resume (record { at = from; line = start })
+  quieter-here h k =
+      record {
+        further = omega arith;
+        inside = h;
+        line-most = k;
+        passes = λ c e d i j r. subst (λ at. Goes c at start) e (subst (λ line. Goes c (c .at) line) d (r, refl));
+      }
+    where
+      Goes : Cursor → ℕ → ℕ → Type 0
+      Goes c at line = Ready s (movedTo c at line) × (remaining s c ≡ remaining s (movedTo c at line))
+
+  quieter-next : (at line : ℕ) → Quieter s from start spanEnd resume (record { at = at; line = line }) → at < length s → Calm s spanEnd resume at → (next : ℕ) → next ≡ countAfter lf (getD s at 0) line
+      → Quieter s from start spanEnd resume (record { at = at + 1; line = next })
+  quieter-next at line q h calm next e =
+      record {
+        further = omega (arith, q .further);
+        inside = omega arith;
+        line-most = omega (arith, q .line-most, count-after lf (getD s at 0) line);
+        passes = λ c i j k l r.
+            let (m, n) = q .passes c i j k l r in
+            let d : Calm s (c .«span_end») (c .resume) at = subst (λ x. Calm s x (c .resume) at) (sym k) (subst (λ x. Calm s spanEnd x at) (sym l) calm) in
+            let p = quiet s (movedTo c at line) h m d next e in
+            (p .ready, n ∙ p .same);
+      }
+
+  quieter-many : (q : Spot) → Quieter s from start spanEnd resume q → (many : ℕ) → q .at + many ≤ length s → ((i : ℕ) → i < many → Calm s spanEnd resume (q .at + i))
+      → Quieter s from start spanEnd resume (record { at = q .at + many; line = q .line + countFrom lf s (q .at) many })
+  unfolding countFrom
+  quieter-many q h zero k calm = subst (λ at. Quieter s from start spanEnd resume (record { at = at; line = q .line + 0 })) (omega arith) (subst (λ line. Quieter s from start spanEnd resume (record { at = q .at; line = line })) (omega arith) h)
+  quieter-many q h (suc many) k calm =
+      let n : Quieter s from start spanEnd resume (record { at = q .at + many; line = q .line + countFrom lf s (q .at) many }) = quieter-many q h many (omega arith) (λ i j. calm i (omega arith)) in
+      subst (λ at. Quieter s from start spanEnd resume (record { at = at; line = q .line + countFrom lf s (q .at) (suc many) })) (omega arith)
+      (quieter-next (q .at + many) (q .line + countFrom lf s (q .at) many) n (omega arith) (calm many (omega arith)) _ (sym (count-behind lf (getD s (q .at + many) 0) (q .line) (countFrom lf s (q .at) many))))
+
+  -- past bytes of which each is quiet before a place
+  pub quieter-on : (P : ℕ → Type 0) (q : Spot) → Quieter s from start spanEnd resume q → (to : ℕ) → to ≤ length s → ((at : ℕ) → at < to → P (getD s at 0) → Calm s spanEnd resume at)
+      → (r : Spot) → Passed P s (q .at) (q .line) to r → Quieter s from start spanEnd resume r
+  quieter-on P q h to k calm r p =
+      subst (λ at. Quieter s from start spanEnd resume (record { at = at; line = r .line })) (sym (p .at-is))
+      (subst (λ line. Quieter s from start spanEnd resume (record { at = q .at + p .many; line = line })) (sym (p .line-is))
+      (quieter-many q h (p .many) inside (λ i j. calm (q .at + i) (omega (arith, p .at-is, p .before (omega arith))) (p .each i j))))
+    where
+      inside : q .at + p .many ≤ length s
+      inside =
+          elim (whether (ltb 0 (p .many))) [
+            | inl t ↦ omega (arith, p .at-is, p .before (ltb-true 0 (p .many) t))
+            | inr t ↦ omega (arith, h .inside, ltb-false 0 (p .many) t)
+          ]
+
+-- bytes passed: none, one, a block, and some after others
+module _ (P : ℕ → Type 0) (s : List ℕ) where
+  pub passed-none : (from start to : ℕ) → Passed P s from start to (record { at = from; line = start })
+  passed-none from start to = record { many = 0; at-is = omega arith; line-is = omega (arith, count-none lf s from); each = λ i k. absurd (omega arith); before = λ k. absurd (omega arith) }
+
+  pub passed-block : (from start to many : ℕ) → from + many ≤ to → Every P s from many → (lines : ℕ) → lines ≡ countFrom lf s from many → Passed P s from start to (record { at = from + many; line = start + lines })
+  passed-block from start to many k each lines e = record { many = many; at-is = refl; line-is = ap (λ n. start + n) e; each = each; before = λ j. k }
+
+  pub passed-byte : (from start to : ℕ) → from < to → P (getD s from 0) → (next : ℕ) → next ≡ countAfter lf (getD s from 0) start → Passed P s from start to (record { at = from + 1; line = next })
+  passed-byte from start to k p next e = record { many = 1; at-is = refl; line-is = e ∙ count-one lf s from start; each = every-one P s from p; before = λ j. omega arith }
+
+  pub passed-more : (from start to : ℕ) (q r : Spot) → Passed P s from start to q → Passed P s (q .at) (q .line) to r → Passed P s from start to r
+  passed-more from start to q r h g =
+      let e : q .at ≡ from + h .many = h .at-is in
+      let later : Every P s (from + h .many) (g .many) = subst (λ k. Every P s k (g .many)) e (g .each) in
+      let lines : countFrom lf s (q .at) (g .many) ≡ countFrom lf s (from + h .many) (g .many) = ap (λ k. countFrom lf s k (g .many)) e in
+      record {
+        many = h .many + g .many;
+        at-is = omega (arith, g .at-is);
+        line-is = omega (arith, lines, h .line-is, g .line-is, count-sum lf s from (h .many) (g .many));
+        each = every-sum P s from (h .many) (g .many) (h .each) later;
+        before =
+            λ j. elim (whether (ltb 0 (g .many))) [
+              | inl t ↦ g .before (ltb-true 0 (g .many) t)
+              | inr t ↦ omega (arith, ltb-false 0 (g .many) t, g .at-is, h .before (omega (arith, ltb-false 0 (g .many) t)))
+            ];
+      }
+
+-- a line is counted for a byte at most
+pub passed-line : (P : ℕ → Type 0) (s : List ℕ) (from start to : ℕ) (r : Spot) → Passed P s from start to r → start ≤ from + 1 → r .line ≤ r .at + 1
+passed-line P s from start to r p h = omega (arith, p .at-is, p .line-is, count-most lf s from (p .many))
 
 -- a turn that finds a function finds it for every cursor that has the same functions
 pub yields-later : (s : List ℕ) (b c : Cursor) (f : Found) (d : Cursor) → remaining s c ≡ remaining s b → b .at ≤ c .at → Yields s c f d → Yields s b f d

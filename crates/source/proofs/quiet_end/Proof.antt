@@ -1,52 +1,53 @@
--- `source::quiet_end` meets its contract: past each quiet byte the functions that are still to come are the same.
-use Prim.Native.Nat.{_-_}
+-- `source::quiet_end` meets its contract: before the end of a span every byte is quiet, before the end of a body all but `#`, and everywhere all
+-- but `#` and `f`.
 use native.Mathlib.Omega.{arith}
 use borrow.Author.Needs.{needs}
-use borrow.Author.Tests.{not-false}
 use lib.ListN.{length}
-use Rattle.source.specs.Cursors.{Quieter}
-use Rattle.source.specs.Steps.{quieter-here, quieter-next}
+use Rattle.text_rules.specs.Classes.{hash}
+use Rattle.source.specs.Cursors.{Any, Neither}
+use Rattle.source.specs.Steps.{calm-body, calm-byte, calm-span, passed-line, quieter-here, quieter-on}
 use Rattle.source.proofs.quiet_end.Statement.{statement}
 use Rattle.source.proofs.quiet_end.Tie as tie
 
-abbrev Inv-loop : tie.InvT-loop
-Inv-loop s from start at₀ line₀ at line = Quieter s from start (record { at = at; line = line })
+pass-others-requires : tie.Need-pass-others-requires
+pass-others-requires c κs =
+    let p = c .before in
+    let b = p .before .before .before in
+    let s = b .args .s .now in
+    (c .least2 .ensures .1, passed-line Any s (b .args .from) (b .args .start) (p .before .least .result) (p .pass-all .result) (p .pass-all .ensures) (b .pre .1))
 
-abbrev μ-loop : tie.MeasureT-loop
-μ-loop s from start at₀ line₀ at line = length s - at
+pass-others-requires-2 : tie.Need-pass-others-requires-2
+pass-others-requires-2 c κs =
+    let l = c .before in
+    let p = l .before in
+    let b = p .before .before .before in
+    let s = b .args .s .now in
+    let k = passed-line Any s (b .args .from) (b .args .start) (p .before .least .result) (p .pass-all .result) (p .pass-all .ensures) (b .pre .1) in
+    (omega arith, passed-line (Neither hash hash) s (p .pass-all .result .at) (p .pass-all .result .line) (l .least2 .result) (c .pass-others .result) (c .pass-others .ensures) k)
 
-loop-holds : tie.Need-loop-holds Inv-loop μ-loop
-loop-holds c = let b = c .before in quieter-here (b .args .s .now) (b .args .from) (b .args .start) (b .pre .0) (b .pre .1)
-
-count-after-requires : tie.Need-count-after-requires Inv-loop μ-loop
-count-after-requires c κs = let l = c .before .before .before .before in omega (arith, l .loop .inv .line-most)
-
-returns : tie.Need-returns Inv-loop μ-loop
-returns c = c .before .before .before .before .loop .inv
-
-loop-again : tie.Need-loop-again Inv-loop μ-loop
-loop-again c =
-    let q = c .before .before in
-    let l = q .before .before .before in
-    let b = l .before .before in
-    quieter-next (b .args .s .now) (b .args .from) (b .args .start) (l .loop .at) (l .loop .line) (l .loop .inv) (omega arith) (q .is-quiet .ensures (not-false _ (c .before .if1 .left))) (c .count-after .result)
-    (c .count-after .ensures .0)
-
-returns-2 : tie.Need-returns-2 Inv-loop μ-loop
-returns-2 c = c .before .loop .inv
+returns : tie.Need-returns
+returns c =
+    let o = c .before in
+    let l = o .before in
+    let p = l .before in
+    let k = p .before in
+    let b = k .before .before in
+    let s = b .args .s .now in
+    let spanEnd = b .args .span-end in
+    let resume = b .args .resume in
+    let on = quieter-on s (b .args .from) (b .args .start) spanEnd resume in
+    let none = quieter-here s (b .args .from) (b .args .start) spanEnd resume (b .pre .0) (b .pre .1) in
+    let span = on Any _ none (k .least .result) (k .least .ensures .1) (λ at h x. calm-span s spanEnd resume at (omega (arith, k .least .ensures .0))) (p .pass-all .result) (p .pass-all .ensures) in
+    let body = on (Neither hash hash) _ span (l .least2 .result) (l .least2 .ensures .1) (λ at h x. calm-body s spanEnd resume at (omega (arith, l .least2 .ensures .0)) (x .0)) (o .pass-others .result) (o .pass-others .ensures) in
+    on (Neither hash 102) _ body (length s) (omega arith) (λ at h x. calm-byte s spanEnd resume at x) (c .pass-others2 .result) (c .pass-others2 .ensures)
 
 pub quiet-end-spec : {M : Type 1} → statement M
 quiet-end-spec =
     tie.close
     (tie.spec
-    Inv-loop
-    μ-loop
-    loop-holds
-    (λ c. omega arith)
     (λ c κs. search needs)
-    returns
-    count-after-requires
-    (λ c. omega arith)
-    (λ c. omega arith)
-    loop-again
-    returns-2)
+    (λ c κs. search needs)
+    (λ c κs. search needs)
+    pass-others-requires
+    pass-others-requires-2
+    returns)

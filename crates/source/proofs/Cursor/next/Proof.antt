@@ -28,7 +28,7 @@ returns c =
     let l = c .before .before .before .before .before in
     let b = c .before .before .before .before .before .before .before in
     let q = c .before .before .quiet-end in
-    let (ready, same) = q .ensures .passes (l .loop .c) refl refl (l .loop .inv .0) in
+    let (ready, same) = q .ensures .passes (l .loop .c) refl refl refl refl (l .loop .inv .0) in
     sym (l .loop .inv .1) ∙ same ∙ remaining-end (b .args .s .now) (movedTo (l .loop .c) (q .result .at) (q .result .line)) (omega (arith, c .if2 .taken))
 
 turn-at-requires : tie.Need-turn-at-requires Inv-loop μ-loop
@@ -36,7 +36,7 @@ turn-at-requires c κs =
     let l = c .before .before .before .before .before in
     let b = c .before .before .before .before .before .before .before in
     let q = c .before .before .quiet-end in
-    let (ready, same) = q .ensures .passes (l .loop .c) refl refl (l .loop .inv .0) in
+    let (ready, same) = q .ensures .passes (l .loop .c) refl refl refl refl (l .loop .inv .0) in
     (omega (arith, c .if2 .left, q .ensures .inside), ready)
 
 returns-2 : tie.Need-returns-2 Inv-loop μ-loop
@@ -44,7 +44,7 @@ returns-2 c =
     let l = c .before .before .before .before .before .before .before .before .before in
     let b = c .before .before .before .before .before .before .before .before .before .before .before in
     let q = c .before .before .before .before .before .before .quiet-end in
-    let (ready, same) = q .ensures .passes (l .loop .c) refl refl (l .loop .inv .0) in
+    let (ready, same) = q .ensures .passes (l .loop .c) refl refl refl refl (l .loop .inv .0) in
     let m = movedTo (l .loop .c) (q .result .at) (q .result .line) in
     let f = c .before .t .given .0 .0 in
     let d = c .before .t .given .0 .1 .0 in
@@ -56,7 +56,7 @@ loop-less c =
     let l = c .before .before .before .before .before .before .before .before .before in
     let b = c .before .before .before .before .before .before .before .before .before .before .before in
     let q = c .before .before .before .before .before .before .quiet-end in
-    let (ready, same) = q .ensures .passes (l .loop .c) refl refl (l .loop .inv .0) in
+    let (ready, same) = q .ensures .passes (l .loop .c) refl refl refl refl (l .loop .inv .0) in
     let m = movedTo (l .loop .c) (q .result .at) (q .result .line) in
     let p : Passes (b .args .s .now) m (c .before .t2 .given .0 .0) = subst (Turned (b .args .s .now) m) (c .before .t2 .given .1) (c .before .before .before .turn-at .ensures) in
     omega (arith, p .further, q .ensures .further, c .before .before .before .before .before .before .before .if1 .taken)
@@ -66,7 +66,7 @@ loop-again c =
     let l = c .before .before .before .before .before .before .before .before .before in
     let b = c .before .before .before .before .before .before .before .before .before .before .before in
     let q = c .before .before .before .before .before .before .quiet-end in
-    let (ready, same) = q .ensures .passes (l .loop .c) refl refl (l .loop .inv .0) in
+    let (ready, same) = q .ensures .passes (l .loop .c) refl refl refl refl (l .loop .inv .0) in
     let m = movedTo (l .loop .c) (q .result .at) (q .result .line) in
     let p : Passes (b .args .s .now) m (c .before .t2 .given .0 .0) = subst (Turned (b .args .s .now) m) (c .before .t2 .given .1) (c .before .before .before .turn-at .ensures) in
     (p .ready, sym (p .same) ∙ sym same ∙ l .loop .inv .1, omega (arith, p .further, q .ensures .further, l .loop .inv .2))
