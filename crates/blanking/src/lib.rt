@@ -33,6 +33,9 @@ const BACKSLASH: u8 = b'\\';
 // The most bytes that a text may have.
 const MAX_TEXT: usize = 16777216;
 
+// The bytes that are passed by steps before blocks are asked again. Fewer make a text that is dense in tokens slower, more an ordinary one.
+const STRETCH: usize = 32;
+
 // A place in a text.
 struct Cursor {
     at: usize,
@@ -395,7 +398,7 @@ impl Cursor {
         here
     }
 
-    // Writes the plain bytes here, and then sixteen bytes by steps: where tokens are dense, few blocks are asked.
+    // Writes the plain bytes here, and then some bytes by steps.
     fn pass(self, text: &[u8], output: &mut [u8]) -> Cursor
         requires { ⌜ (self .at < length (now text)) × (length (now text) ≤ length (now output)) ⌝ }
         ensures { λ r. ⌜ (self .at < r .at) × (r .at ≤ length (now (text .entry))) × (finished (now (text .entry)) (now (output .exit)) (r .at) (r .at) ≡ finished (now (text .entry)) (now (output .entry)) (self .at) (self .at)) ⌝ }
@@ -403,7 +406,7 @@ impl Cursor {
         let at = self.at;
         let to = plain_end(text, at);
         copy(text, output, at, to);
-        let end = to + least(blocks::WIDTH, text.len() - to);
+        let end = to + least(STRETCH, text.len() - to);
         Cursor { at: to }.steps(text, output, end)
     }
 }
