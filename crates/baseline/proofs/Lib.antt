@@ -1,5 +1,6 @@
 -- The laws that the functions cite.
 mod Fields
+mod Begins
 mod Finds
 mod Halving
 mod KeyOrder

@@ -1,6 +1,7 @@
 // The baseline: its lines and their fields by their bounds, its numbers, and the look-up of a function's key. Nothing is copied.
 ghost use mathlib.Core.Path.{_≡_};
-ghost use mathlib.Core.Bool.{true};
+ghost use mathlib.Core.Bool.{true, false};
+ghost use mathlib.Core.Option.{none};
 ghost use Prim.Native.Nat.{_+_, _*_, _-_, _≤_, _<_};
 ghost use lib.Dec.{leb};
 ghost use lib.ListN.{length, drop, getD};
@@ -294,10 +295,27 @@ pub enum Accepted {
     Unlisted,
 }
 
+// Whether a line begins with path, tab and name and goes on. No other has an entry with that key, so most lines need not be read.
+fn begins_with(line: &[u8], path: &[u8], name: &[u8]) -> bool
+    ensures { λ r. ⌜ (r ≡ false → hit (keyOf (now (path .entry)) (now (name .entry))) (entryOf (now (line .entry))) ≡ none) ⌝ }
+{
+    if line.len() <= path.len() {
+        return false;
+    }
+    if line.len() - path.len() - 1 <= name.len() {
+        return false;
+    }
+    let end = path.len() + 1 + name.len();
+    is_key(&line[..end], path, name)
+}
+
 // What a line accepts of the function with this path and name.
 fn in_line(line: &[u8], path: &[u8], name: &[u8]) -> Accepted
     ensures { λ r. ⌜ r ≡ acceptedBy (hit (keyOf (now (path .entry)) (now (name .entry))) (entryOf (now (line .entry)))) ⌝ }
 {
+    if !begins_with(line, path, name) {
+        return Accepted::Unlisted;
+    }
     match entry(line) {
         Line::Entry(e) => {
             let end = e.name_end;
