@@ -50,7 +50,7 @@ pub fn line_end(s: &[u8], from: usize) -> usize
     requires { ⌜ from ≤ length (now s) ⌝ }
     ensures { λ r. ⌜ (r ≡ from + bytesBefore lf (drop from (now (s .entry)))) × (from ≤ r) × (r ≤ length (now (s .entry))) ⌝ }
 {
-    next(s, from, LF)
+    next(s, blocks::past(s, from, LF), LF)
 }
 
 // Where the bytes of a line end: before one CR, where an LF ends the line.

@@ -1,19 +1,15 @@
 -- One step of the search for each token's end, at a place `i` of a text `s`: what the loops cite. Each is its definition at the byte there.
-use mathlib.Core.Path.{_≡_, ap}
+use mathlib.Core.Path.{_≡_}
 use mathlib.Core.Logic.{_≢_}
 use mathlib.Core.Bool.{Bool, true, false, _&&_}
 use mathlib.Core.List.{List}
-use Prim.Native.Nat.{ℕ, zero, suc, _+_, _≤_, _<_}
-use native.Mathlib.Nat.{add-zero}
+use Prim.Native.Nat.{ℕ, suc, _+_, _≤_, _<_}
 use native.Mathlib.Numerals.{add-one}
-use native.Mathlib.Omega.{arith}
 use borrow.Author.Tests.{eq-eqb, ne-eqb, le-leb, lt-leb}
 use lib.Dec.{eqb}
 use lib.ListN.{length, getD, drop, drop-of-length-le}
-use Rattle.blocks.specs.Blocks.{Lacks}
 use Rattle.text_rules.specs.Classes.{backslash, hash, quote, slash, star}
-use Rattle.text_rules.specs.ScanLaws.{bytesBefore-more, run-more, run-stop, split}
-use Rattle.text_rules.specs.Search.{bytesBefore}
+use Rattle.text_rules.specs.ScanLaws.{run-more, run-stop, split}
 use Rattle.source_rules.specs.Blank.{blockLength, hashes, rawLength, stringLength}
 
 module _ (s : List ℕ) (i : ℕ) (h : i < length s) where
@@ -81,15 +77,3 @@ module _ (s : List ℕ) (i : ℕ) (h : length s ≤ i) where
   pub raw-end : (n : ℕ) → rawLength n (drop i s) ≡ 0
   unfolding rawLength
   raw-end n = rw (drop-of-length-le s h)
-
--- n bytes that are not x stand before the first x
-pub passed : (s : List ℕ) (x at n : ℕ) → at + n ≤ length s → Lacks x s at n → bytesBefore x (drop at s) ≡ n + bytesBefore x (drop (at + n) s)
-passed s x at zero h l = rw (add-zero at) (omega arith)
-passed s x at (suc n) h l =
-    let e : at + n + 1 ≡ at + suc n = omega arith in
-    omega (
-      arith,
-      passed s x at n (omega arith) (λ i k. l i (omega arith)),
-      bytesBefore-more s (at + n) (omega arith) x (l n (omega arith)),
-      ap (λ j. bytesBefore x (drop j s)) e,
-    )

@@ -82,21 +82,6 @@ fn find(s: &[u8], x: u8) -> usize
     i
 }
 
-// Past the blocks at a place that have no LF.
-fn line_blocks(s: &[u8], from: usize) -> usize
-    requires { ⌜ from ≤ length (now s) ⌝ }
-    ensures { λ r. ⌜ (r ≤ length (now (s .entry))) × (from + bytesBefore lf (drop from (now (s .entry))) ≡ r + bytesBefore lf (drop r (now (s .entry)))) ⌝ }
-{
-    let mut at = from;
-    while blocks::WIDTH <= s.len() - at {
-        if !blocks::lacks(s, at, LF) {
-            return at;
-        }
-        at += blocks::WIDTH;
-    }
-    at
-}
-
 impl Cursor {
     // Past the hashes.
     fn hashes(self, s: &[u8]) -> Cursor
@@ -118,7 +103,7 @@ impl Cursor {
         requires { ⌜ self .at ≤ length (now s) ⌝ }
         ensures { λ r. ⌜ Steps (now (s .entry)) (self .at) (bytesBefore lf (drop (self .at) (now (s .entry)))) (r .at) ⌝ }
     {
-        let mut at = line_blocks(s, self.at);
+        let mut at = blocks::past(s, self.at, LF);
         while at < s.len() {
             if s[at] == LF {
                 return Cursor { at };

@@ -3,14 +3,15 @@ use Prim.Native.Nat.{ℕ, zero, suc, _+_, _-_, _≤_, _<_}
 use mathlib.Core.Path.{_≡_, refl, ap, subst, sym, _∙_}
 use mathlib.Core.Logic.{_≢_, inl, inr}
 use mathlib.Core.List.{List}
+use native.Mathlib.Nat.{add-zero}
 use native.Mathlib.Numerals.{add-one}
 use native.Mathlib.Omega.{arith}
 use borrow.Author.Tests.{eq-eqb, eqb-true, eqb-false, ltb-false, ltb-true, ne-eqb}
 use lib.Dec.{eqb, ltb}
-use lib.ListN.{getD}
+use lib.ListN.{length, getD, drop}
 use Rattle.text_rules.specs.BytesLaws.{whether}
-use Rattle.text_rules.specs.Bytes.{if_then_else_}
-use Rattle.text_rules.specs.Search.{countAfter}
+use Rattle.text_rules.specs.ScanLaws.{bytesBefore-more}
+use Rattle.text_rules.specs.Search.{bytesBefore, countAfter}
 
 -- each of them passes
 abbrev pub Every : (ℕ → Type 0) → List ℕ → (at many : ℕ) → Type 0
@@ -96,3 +97,15 @@ every-sum P s at many more h g i k =
           let e : at + many + (i - many) ≡ at + i = omega arith in
           subst (λ j. P (getD s j 0)) e (g (i - many) (omega arith))
     ]
+
+-- n bytes that are not x stand before the first x
+pub passed : (s : List ℕ) (x at n : ℕ) → at + n ≤ length s → Lacks x s at n → bytesBefore x (drop at s) ≡ n + bytesBefore x (drop (at + n) s)
+passed s x at zero h l = rw (add-zero at) (omega arith)
+passed s x at (suc n) h l =
+    let e : at + n + 1 ≡ at + suc n = omega arith in
+    omega (
+      arith,
+      passed s x at n (omega arith) (λ i k. l i (omega arith)),
+      bytesBefore-more s (at + n) (omega arith) x (l n (omega arith)),
+      ap (λ j. bytesBefore x (drop j s)) e,
+    )

@@ -3,7 +3,8 @@
 ghost use mathlib.Core.Path.{_≡_};
 ghost use mathlib.Core.Bool.{true};
 ghost use Prim.Native.Nat.{_+_, _≤_};
-ghost use lib.ListN.{length};
+ghost use lib.ListN.{length, drop};
+ghost use Rattle.text_rules.specs.Search.{bytesBefore};
 ghost use Rattle.blocks.specs.Blocks.{Below, Lacks, countFrom};
 
 // The bytes of a block.
@@ -55,4 +56,23 @@ pub fn count(s: &[u8], at: usize, x: u8) -> usize
         i += 1;
     }
     n as usize
+}
+
+// Past the blocks at a place that have no `x`.
+pub fn past(s: &[u8], from: usize, x: u8) -> usize
+    requires { ⌜ from ≤ length (now s) ⌝ }
+    ensures { λ r. ⌜
+        (r ≤ length (now (s .entry)))
+        × (from + bytesBefore x (drop from (now (s .entry))) ≡ r + bytesBefore x (drop r (now (s .entry))))
+        × (from ≤ r)
+        ⌝ }
+{
+    let mut at = from;
+    while WIDTH <= s.len() - at {
+        if !lacks(s, at, x) {
+            return at;
+        }
+        at += WIDTH;
+    }
+    at
 }

@@ -20,7 +20,7 @@ abbrev μ-loop : tie.MeasureT-loop
 returns : tie.Need-returns Inv-loop μ-loop
 returns c = let l = c .before .before .before in
     let b = l .before in
-    omega (arith, b .line-blocks .ensures .1, bytesBefore-stop (b .before .before .args .s .now) (l .loop .at) (omega arith) lf (c .if1 .taken))
+    omega (arith, b .past .ensures .1, bytesBefore-stop (b .before .before .args .s .now) (l .loop .at) (omega arith) lf (c .if1 .taken))
 
 loop-again : tie.Need-loop-again Inv-loop μ-loop
 loop-again c = let l = c .before .before .before in
@@ -29,7 +29,7 @@ loop-again c = let l = c .before .before .before in
 returns-2 : tie.Need-returns-2 Inv-loop μ-loop
 returns-2 c = let l = c .before in
     let b = l .before in
-    omega (arith, b .line-blocks .ensures .1, run-end (b .before .before .args .s .now) (l .loop .at) (λ (x : ℕ). not (eqb x lf)) (c .loop-test .left))
+    omega (arith, b .past .ensures .1, run-end (b .before .before .args .s .now) (l .loop .at) (λ (x : ℕ). not (eqb x lf)) (c .loop-test .left))
 
 pub line-body-spec : {M : Type 1} → statement M
 line-body-spec =
@@ -38,7 +38,7 @@ line-body-spec =
     Inv-loop
     μ-loop
     (λ c κs. omega arith)
-    (λ c. omega (arith, c .line-blocks .ensures .0))
+    (λ c. omega (arith, c .past .ensures .0))
     (λ c. omega arith)
     returns
     (λ c. omega arith)
