@@ -19,7 +19,9 @@
 
    A tree: the number of files; for each file the offset and length of its path and of its text, 4 bytes each; then path and text of each file, one
    after another without gaps. Paths rise in byte order, where / counts below every other byte.
-   A record: file number, start of the name in the tree, its length, line, lines, cyclomatic number, nesting, parameters. */
+   A record: file number, start of the name in the tree, its length, line, lines, cyclomatic number, nesting, parameters.
+
+   No call takes memory beside what is lent. complexity_update and complexity_report use some 40 KB of stack, the others less than 4 KB. */
 #ifndef COMPLEXITY_H
 #define COMPLEXITY_H
 
