@@ -178,7 +178,7 @@ fn rows(real: &Real) -> Vec<(Input<'_>, Call)> {
     for piece in ["fn a(", "fn a(){", "#[cfg(test)]{", "fn a(){{}", "fn a()[", "fn a()<", "fn a()[{"] {
         rows.push((Input::Unclosed(piece), Call::Scan));
     }
-    for (front, back) in [("fn a(", ")"), ("[", "fn a()]")] {
+    for (front, back) in [("fn a(", ")"), ("[", "fn a()]"), ("fn a()[", "]"), ("fn a()<", ">"), ("fn a([", "])")] {
         rows.push((Input::Nested(front, back), Call::Scan));
     }
     rows
