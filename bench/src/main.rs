@@ -175,12 +175,16 @@ fn rows(real: &Real) -> Vec<(Input<'_>, Call)> {
         rows.push((Input::Alive { ordered }, Call::Check));
         rows.push((Input::Stale { ordered }, Call::Check));
     }
-    for piece in ["fn a(", "fn a(){", "#[cfg(test)]{", "fn a(){{}", "fn a()[", "fn a()<", "fn a()[{"] {
+    for piece in ["fn a(", "fn a(){", "#[cfg(test)]{", "fn a(){{}", "fn a()[", "fn a()<", "fn a()[{", "<fn a()<[{}]>>"] {
         rows.push((Input::Unclosed(piece), Call::Scan));
     }
     for (front, back) in [("fn a(", ")"), ("[", "fn a()]"), ("fn a()[", "]"), ("fn a()<", ">"), ("fn a([", "])")] {
         rows.push((Input::Nested(front, back), Call::Scan));
     }
+    for (front, back) in [("fn a()<", ">"), ("fn a()[", "]")] {
+        rows.extend(["{", "{ {}"].map(|tail| (Input::Behind(front, back, tail), Call::Scan)));
+    }
+    rows.push((Input::Behind("fn a()[fn a()]", "", "[[{}]]"), Call::Scan));
     rows
 }
 

@@ -37,6 +37,8 @@ pub enum Input<'a> {
     Unclosed(&'a str),
     /// so many of the first and then as many of the second: signatures without a body inside brackets that close
     Nested(&'a str, &'a str),
+    /// so many of the first, one fewer of the second, and the third behind them: a brace that searches come to, most of them inside a bracket
+    Behind(&'a str, &'a str, &'a str),
 }
 
 impl Input<'_> {
@@ -50,6 +52,8 @@ impl Input<'_> {
             Input::Stale { ordered } => format!("200,000 baseline lines, all stale{}", order(*ordered)),
             Input::Unclosed(piece) => format!("`{piece}` to 128 KB"),
             Input::Nested(front, back) => format!("`{front}` and as many `{back}`, 128 KB"),
+            Input::Behind(front, "", tail) => format!("`{front}` to 128 KB, then `{tail}`"),
+            Input::Behind(front, back, tail) => format!("`{front}` and one `{back}` fewer, 128 KB, then `{tail}`"),
         }
     }
 
@@ -63,6 +67,7 @@ impl Input<'_> {
             Input::Stale { ordered } => stale(*ordered, divisor),
             Input::Unclosed(piece) => unclosed(piece, divisor),
             Input::Nested(front, back) => nested(front, back, divisor),
+            Input::Behind(front, back, tail) => behind(front, back, tail, divisor),
         };
         load.name.insert_str(0, &self.name());
         load
@@ -185,5 +190,12 @@ fn unclosed(piece: &str, divisor: usize) -> Load {
 fn nested(front: &str, back: &str, divisor: usize) -> Load {
     let deep = 128 * 1024 / (front.len() + back.len()) / divisor;
     let text = format!("{}{};fn b(){{}}", front.repeat(deep), back.repeat(deep));
+    Load::new("", vec![("src/a.rs".to_string(), text)], Vec::new())
+}
+
+/// Signatures in each other's brackets, one of which is not closed, and a text behind them.
+fn behind(front: &str, back: &str, tail: &str, divisor: usize) -> Load {
+    let deep = 128 * 1024 / (front.len() + back.len()) / divisor;
+    let text = format!("{}{}{tail}", front.repeat(deep), back.repeat(deep - 1));
     Load::new("", vec![("src/a.rs".to_string(), text)], Vec::new())
 }

@@ -64,7 +64,7 @@ pred-less (suc d) zero z h = absurd (omega arith)
 pred-less (suc d) (suc n) z h = omega arith
 
 -- angle brackets
-angle-raised : (angle opened closed : ℕ) → 0 < angle → flat angle opened closed ≡ false
+pub angle-raised : (angle opened closed : ℕ) → 0 < angle → flat angle opened closed ≡ false
 unfolding flat
 angle-raised angle opened closed h = rw (ne-eqb angle 0 (λ e. omega arith))
 
@@ -97,7 +97,7 @@ module _ (x y : ℕ) (apart : x ≢ y) where
             ]
       ]
 
-squares-raised : (angle opened closed : ℕ) → opened ≢ closed → flat angle opened closed ≡ false
+pub squares-raised : (angle opened closed : ℕ) → opened ≢ closed → flat angle opened closed ≡ false
 unfolding flat
 squares-raised angle opened closed h = rw (ne-eqb opened closed h, and-false (eqb angle 0))
 

@@ -1,4 +1,5 @@
 -- A place as the code tells it, and what searches in vain tell.
+pub mod BlockLaws
 pub mod BodyLaws
 pub mod EndLaws
 pub mod FlatLaws

@@ -1,7 +1,7 @@
 -- The step of the search at a byte, in places of the whole text.
 use Prim.Native.Nat.{ℕ, zero, suc, pred, _+_, _-_, _≤_, _<_}
 use mathlib.Core.Path.{_≡_, refl, ap, sym, subst, _∙_}
-use mathlib.Core.Logic.{_≢_, inl, inr}
+use mathlib.Core.Logic.{_⊎_, _≢_, inl, inr}
 use mathlib.Core.List.{List, [], _∷_}
 use mathlib.Core.Option.{Option, none, some}
 use native.Mathlib.Numerals.{sub-one, add-one}
@@ -11,19 +11,22 @@ use lib.ListN.{length, take, drop, getD}
 use lib.Dec.{ltb}
 use Rattle.text_rules.specs.Bytes.{_orElse_}
 use Rattle.text_rules.specs.BytesLaws.{whether}
-use Rattle.text_rules.specs.Classes.{hash, isSpace, isWord, lf}
-use Rattle.text_rules.specs.Search.{countAfter, part, run}
-use Rattle.source_rules.specs.Finding.{Places, functionAt, functionFrom, nameEnd, nameStart, spanLength}
+use Rattle.text_rules.specs.Classes.{braceClose, braceOpen, hash, isSpace, isWord, lf, roundClose, roundOpen}
+use Rattle.text_rules.specs.Search.{_andThen_, countAfter, find, part, run}
+use Rattle.source_rules.specs.Brackets.{partner}
+use Rattle.source_rules.specs.Finding.{Places, bodyAt, functionAt, functionFrom, nameEnd, nameStart, spanLength}
 use Rattle.source_rules.specs.FindingLaws.{function-nameless}
 use Rattle.source_rules.specs.Measures.{cyclomaticOf, linesOf, nestingOf}
 use Rattle.source_rules.specs.MeasuresLaws.{count-after}
 use Rattle.source_rules.specs.Parameters.{paramsOf}
-use Rattle.source_rules.specs.PlaceLaws.{movedPlaces, part-rest, placesAt}
+use Rattle.source_rules.specs.PlaceLaws.{body-place, find-place, movedPlaces, part-rest, partner-place, placesAt}
 use Rattle.source_rules.specs.TextScan.{TextFun, functionsFrom, measured, sought}
 use Rattle.source_rules.specs.TextScanLaws.{Fine, Here, fine}
 use Rattle.source_rules.specs.TextScanSteps.{byteBefore, function-at, functions-past, name-from, name-to, no-function, no-hash, other-byte}
 use Rattle.source_rules.specs.WalkSteps.{functions-end, functions-some, sought-in-span, sought-no-word, sought-skipped}
 use Rattle.blocks.specs.Blocks.{Every, count-behind, count-most, count-none, count-one, count-sum, countFrom, every-one, every-sum}
+use Rattle.search.specs.EndLaws.{no-partner, none-some}
+use Rattle.search.specs.FlatLaws.{no-body}
 use Rattle.search.specs.Place.{Learned}
 use Rattle.search.specs.declared.Learnt.{Learnt}
 use Rattle.source.specs.Cursors.{Barren, Calm, Closed, FoundAt, MeasuredAt, Passed, Passes, Quieter, Ready, SpanAt, Spanless, Yields, movedTo, remaining, remainingAt, textFun}
@@ -320,3 +323,22 @@ module _ (s : List ℕ) (at from to : ℕ) (e : from ≡ at + 2 + run isSpace (d
       let q = placesAt (at + nameStart (drop at s)) to (b .opened) (b .closed) (b .body) (b .end) in
       let (p, g, m) = function-at s at (omega (arith, from-is, to-is)) q (ap (λ k. functionFrom (at + nameStart (drop at s)) k s) (sym to-is) ∙ c .places (at + nameStart (drop at s))) in
       there h line b f c i p g m
+
+then-none : {A : Type 0} (o : Option ℕ) (k : ℕ → Option A) → ((m : ℕ) → o ≡ some m → k m ≡ none) → (o andThen k) ≡ none
+then-none none k h = refl
+then-none (some m) k h = h m refl
+
+-- behind the last { or the last } no name is a function's
+pub behind-braces : (s : List ℕ) (v : Learnt) → Learned s v → (to : ℕ) → (v .flats .last ≤ to) ⊎ (v .braces .last ≤ to) → (from x : ℕ) → to ≤ x → functionFrom from x s ≡ none
+unfolding functionFrom
+behind-braces s v l to h from x k =
+    then-none (find roundOpen x (drop x s)) _ λ opened e₁.
+    then-none (partner roundOpen roundClose 0 (suc opened) (drop (suc opened) s)) _ λ closed e₂.
+    then-none (bodyAt 0 0 0 (suc closed) (drop (suc closed) s)) _ λ body e₃.
+    let i₁ = find-place s x opened roundOpen e₁ in
+    let i₂ = partner-place s (suc opened) closed roundOpen roundClose e₂ in
+    let i₃ = body-place s (suc closed) body e₃ in
+    elim h [
+      | inl g ↦ absurd (none-some body (sym e₃ ∙ no-body s (v .flats .last) (suc closed) 0 0 0 (l .flats-known .no-brace) (omega arith)))
+      | inr g ↦ rw (no-partner braceOpen braceClose s (v .braces .last) (suc body) 0 (l .braces-known .no-closing) (omega arith))
+    ]

@@ -6,6 +6,7 @@ use measures::BodyAt;
 use search::Learnt;
 use search::Place;
 ghost use mathlib.Core.Path.{_≡_};
+ghost use mathlib.Core.Logic.{_⊎_};
 ghost use mathlib.Core.Bool.{true};
 ghost use Prim.Native.Nat.{_+_, _≤_, _<_};
 ghost use lib.ListN.{length, getD};
@@ -149,8 +150,20 @@ fn block_at(s: &[u8], body: usize, v: Learnt) -> Block
     block_found(s, body, v)
 }
 
-// The brackets after a name that ends at `to`.
-fn signature_at(s: &[u8], to: usize, v: Learnt) -> Signature
+// Whether no `{` stands from a place on, or no `}`.
+fn is_behind_braces(v: Learnt, to: usize) -> bool
+    ensures { λ r. ⌜ (r ≡ true → (v .flats .last ≤ to) ⊎ (v .braces .last ≤ to)) ⌝ }
+{
+    let flats = v.flats;
+    if flats.last <= to {
+        return true;
+    }
+    let braces = v.braces;
+    braces.last <= to
+}
+
+// The brackets after a name that ends at `to`, each of them sought.
+fn signature_sought(s: &[u8], to: usize, v: Learnt) -> Signature
     requires { ⌜ Learned (now s) v ⌝ }
     ensures { λ r. ⌜ Signed (now (s .entry)) to r ⌝ }
 {
@@ -186,6 +199,17 @@ fn signature_at(s: &[u8], to: usize, v: Learnt) -> Signature
             w,
         ),
     }
+}
+
+// The brackets after a name that ends at `to`. Behind the last `{` or the last `}` no name is a function's, and nothing is sought.
+fn signature_at(s: &[u8], to: usize, v: Learnt) -> Signature
+    requires { ⌜ Learned (now s) v ⌝ }
+    ensures { λ r. ⌜ Signed (now (s .entry)) to r ⌝ }
+{
+    if is_behind_braces(v, to) {
+        return Signature::Broken(s.len(), v);
+    }
+    signature_sought(s, to, v)
 }
 
 // The function on a line whose name stands from one place up to another.
