@@ -342,22 +342,6 @@ fn later(found: Accepted, next: Accepted) -> Accepted
     }
 }
 
-// What the baseline accepts of the function with this path and name. Of equal keys the last line wins.
-pub fn lookup(baseline: &[u8], path: &[u8], name: &[u8]) -> Accepted
-    ensures { λ r. ⌜ r ≡ acceptedBy (lookup (keyOf (now (path .entry)) (now (name .entry))) (entriesOfLines (now (baseline .entry)))) ⌝ }
-{
-    let mut found = Accepted::Unlisted;
-    let mut from = 0;
-    while from < baseline.len() {
-        let end = line_end(baseline, from);
-        let to = trimmed_end(baseline, from, end);
-        let here = in_line(&baseline[from..to], path, name);
-        found = later(found, here);
-        from = end + 1;
-    }
-    found
-}
-
 // ---- look-up by halves, where keys never fall
 
 // Whether the bytes stand before those of path, tab and name.
@@ -504,7 +488,7 @@ fn lookup_from(baseline: &[u8], path: &[u8], name: &[u8], place: usize) -> Accep
     found
 }
 
-// The same as `lookup`, where keys never fall.
+// What a baseline whose keys never fall accepts of the function with this path and name. Of equal keys the last line wins.
 pub fn lookup_ordered(baseline: &[u8], path: &[u8], name: &[u8]) -> Accepted
     requires { ⌜ Unfalling (keysIn (now baseline)) ⌝ }
     ensures { λ r. ⌜ r ≡ acceptedBy (lookup (keyOf (now (path .entry)) (now (name .entry))) (entriesOfLines (now (baseline .entry)))) ⌝ }

@@ -1,7 +1,7 @@
 // The call check: the functions of a tree against what the baseline accepts, and a listing of what got worse and of what is stale.
 // A baseline that is too long is refused before the tree is scanned. How long the listing is, is known before any of it is written.
 ghost use mathlib.Core.Path.{_≡_};
-ghost use mathlib.Core.Bool.{true};
+ghost use mathlib.Core.Bool.{true, false};
 ghost use mathlib.Core.List.{map};
 ghost use Prim.Native.Nat.{_+_, _≤_};
 ghost use lib.Dec.{ltb};
@@ -17,6 +17,7 @@ ghost use Rattle.gate_rules.specs.Scan.{functionsOf};
 ghost use Rattle.gate_rules.specs.Tree.{treeRefusal};
 ghost use Rattle.functions.specs.Shown.{limitsOf};
 ghost use Rattle.baseline.specs.Ordered.{Unfalling, keysIn};
+ghost use Rattle.places.specs.Places.{Filled};
 ghost use Rattle.stale.specs.Taken.{AllStand, staleIn};
 ghost use Rattle.gate_check.specs.Checks.{Checks, Refuses, Tells};
 ghost use Rattle.gate_check.specs.Texts.{someStale, staleLength, verdictLength, worseIn};
@@ -138,6 +139,7 @@ fn put_verdict(
     n: usize,
     lines: &[u8],
     ordered: bool,
+    places: &[u32; 8192],
     count: usize,
     output: &mut [u8],
     at: usize,
@@ -147,6 +149,7 @@ fn put_verdict(
         × (count ≡ length (worseIn (limitsOf limits) (now tree) (now lines)))
         × (at + length (verdictText (worseIn (limitsOf limits) (now tree) (now lines))) ≤ length (now output))
         × (ordered ≡ true → Unfalling (keysIn (now lines)))
+        × (ordered ≡ false → Filled (now lines) (functionsOf gate (now tree)) (now places))
         ⌝ }
     ensures { λ r. ⌜
         (r ≡ at + length (verdictText (worseIn (limitsOf limits) (now (tree .entry)) (now (lines .entry)))))
@@ -161,7 +164,7 @@ fn put_verdict(
         );
     }
     let first = listing::put_counted(output, at, count as u64);
-    regressions::put_all(tree, lent, n, lines, ordered, limits, output, first)
+    regressions::put_all(tree, lent, n, lines, ordered, places, limits, output, first)
 }
 
 // ---- the call
@@ -181,8 +184,12 @@ fn told(
         ⌝ }
 {
     let ordered = baseline::keys_rise(lines);
+    let mut places = [0u32; 8192];
+    if !ordered {
+        places::fill(tree, lent, n, lines, &mut places);
+    }
     let gone = stale::measure(tree, lent, n, lines, ordered);
-    let worse = regressions::measure(tree, lent, n, lines, ordered, limits);
+    let worse = regressions::measure(tree, lent, n, lines, ordered, &places, limits);
     let bytes = stale_length(gone.count, gone.bytes) + verdict_length(worse.count, worse.bytes);
     if output.len() < bytes {
         return refusal(9);
@@ -195,6 +202,7 @@ fn told(
         n,
         lines,
         ordered,
+        &places,
         worse.count,
         output,
         next,

@@ -1,3 +1,3 @@
 pub mod PathOrder
 pub mod Live
-pub mod Decided
+pub mod Ranges

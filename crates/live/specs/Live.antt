@@ -2,12 +2,12 @@
 use Prim.Native.Nat.{ℕ, zero, suc, _+_, _≤_, _<_}
 use mathlib.Core.Path.{_≡_, refl, ap, sym, _∙_}
 use mathlib.Core.Logic.{inl, inr}
-use mathlib.Core.Bool.{true, false, or-true}
+use mathlib.Core.Bool.{Bool, true, false, or-true}
 use mathlib.Core.List.{List, [], _∷_, map}
 use native.Mathlib.Omega.{arith}
-use lib.Dec.{eqb}
+use lib.Dec.{eqb, ltb}
 use lib.ListN.{length, getD, take}
-use borrow.Author.Tests.{eq-eqb, eqb-false, eqb-true, ne-eqb}
+use borrow.Author.Tests.{eq-eqb, eqb-false, eqb-true, ltb-false, ltb-true, ne-eqb}
 use Rattle.text_rules.specs.Bytes.{Lacks, among, same}
 use Rattle.text_rules.specs.BytesLaws.{same-refl, same-true, true-false, whether}
 use Rattle.text_rules.specs.Classes.{tab}
@@ -18,6 +18,15 @@ use Rattle.functions.specs.Shown.{noFun}
 -- no function from one number up to another has the key
 abbrev pub NoneHas : List ℕ → List Fun → (from to : ℕ) → Type 0
 NoneHas k fs from to = (i : ℕ) → from ≤ i → i < to → same k (key (getD fs i noFun)) ≡ false
+
+-- no function but those from one number up to another has the key
+pub record Only (k : List ℕ) (fs : List Fun) (from to : ℕ) : Type 0 where
+  pub front : NoneHas k fs 0 from
+  pub rest : NoneHas k fs to (length fs)
+
+-- the path of a key: what stands before its first tab
+abbrev pub pathOf : List ℕ → List ℕ
+pathOf k = take (bytesBefore tab k) k
 
 pub same-sym : (s t : List ℕ) → same s t ≡ same t s
 same-sym s t =
@@ -47,14 +56,14 @@ unfolding run
 marked x s = rw (eq-eqb x x refl, run)
 
 -- a path without a tab is what stands before the first tab of its keys
-pub key-path : (p name : List ℕ) → Lacks tab p → take (bytesBefore tab (keyOf p name)) (keyOf p name) ≡ p
+pub key-path : (p name : List ℕ) → Lacks tab p → pathOf (keyOf p name) ≡ p
 key-path [] name h = ap (λ n. take n (tab ∷ name)) (marked tab name)
 key-path (b ∷ p) name h = ap (λ n. take n (b ∷ keyOf p name)) (unmarked tab b (keyOf p name) (h .0)) ∙ ap (λ q. b ∷ q) (key-path p name (h .1))
 
-pub other-path : (k : List ℕ) (f : Fun) → Lacks tab (f .path) → (take (bytesBefore tab k) k ≡ f .path → ⊥) → same k (key f) ≡ false
+pub other-path : (k : List ℕ) (f : Fun) → Lacks tab (f .path) → (pathOf k ≡ f .path → ⊥) → same k (key f) ≡ false
 other-path k f h n =
     elim (whether (same k (key f))) [
-      | inl e ↦ absurd (n (ap (λ s. take (bytesBefore tab s) s) (same-true k (key f) e) ∙ key-path (f .path) (f .name) h))
+      | inl e ↦ absurd (n (ap pathOf (same-true k (key f) e) ∙ key-path (f .path) (f .name) h))
       | inr e ↦ e
     ]
 
@@ -65,3 +74,22 @@ none-more k fs from i h e j a b =
       | inl d ↦ ap (λ n. same k (key (getD fs n noFun))) (eqb-true j i d) ∙ e
       | inr d ↦ h j a (omega (arith, eqb-false j i d))
     ]
+
+-- where only some may have the key, they decide whether one has
+pub decided : (k : List ℕ) (fs : List Fun) (from to : ℕ) → Only k fs from to → (r : Bool) → (r ≡ true → among k (map key fs) ≡ true) → (r ≡ false → NoneHas k fs from to)
+    → r ≡ among k (map key fs)
+decided k fs from to o r live dead =
+    elim (whether r) [
+      | inl t ↦ t ∙ sym (live t)
+      | inr t ↦ t ∙ sym (none-live k fs (λ i a b. none-at t i b))
+    ]
+  where
+    none-at : r ≡ false → (i : ℕ) → i < length fs → same k (key (getD fs i noFun)) ≡ false
+    none-at t i h =
+        elim (whether (ltb i from)) [
+          | inl a ↦ o .front i (omega arith) (ltb-true i from a)
+          | inr a ↦ elim (whether (ltb i to)) [
+            | inl b ↦ dead t i (omega (arith, ltb-false i from a)) (ltb-true i to b)
+            | inr b ↦ o .rest i (omega (arith, ltb-false i to b)) h
+          ]
+        ]

@@ -1,7 +1,7 @@
 // Whether a function of a scanned tree has a key. Functions stand in the order of their paths, so those that may have it are found by halves.
 ghost use mathlib.Core.Path.{_≡_};
 ghost use mathlib.Core.Bool.{true, false};
-ghost use mathlib.Core.List.{map};
+ghost use mathlib.Core.List.{List, map};
 ghost use Prim.Native.Nat.{ℕ, _≤_, _<_};
 ghost use lib.ListN.{length, getD};
 ghost use Rattle.text_rules.specs.Bytes.{among, same};
@@ -10,7 +10,7 @@ ghost use Rattle.gate_rules.specs.Gate.{gate};
 ghost use Rattle.gate_rules.specs.Scan.{functionsOf};
 ghost use Rattle.gate_rules.specs.Tree.{pathBefore};
 ghost use Rattle.functions.specs.Shown.{Lies, Stand, noFun, shown};
-ghost use Rattle.live.specs.Live.{NoneHas};
+ghost use Rattle.live.specs.Live.{NoneHas, Only, pathOf};
 use functions::Function;
 
 // Whether the path of the function k stands before a path.
@@ -74,7 +74,7 @@ fn first_behind(tree: &[u8], lent: &[u8], n: usize, path: &[u8]) -> usize
 }
 
 // Whether the function has the key.
-fn has_key(tree: &[u8], f: Function, bytes: &[u8]) -> bool
+pub fn has_key(tree: &[u8], f: Function, bytes: &[u8]) -> bool
     requires { ⌜ Lies (now tree) f ⌝ }
     ensures { λ r. ⌜ r ≡ same (now (bytes .entry)) (key (shown (now (tree .entry)) f)) ⌝ }
 {
@@ -86,7 +86,7 @@ fn has_key(tree: &[u8], f: Function, bytes: &[u8]) -> bool
 }
 
 // Whether one of the functions from one number up to another has the key.
-fn any_has(tree: &[u8], lent: &[u8], n: usize, from: usize, to: usize, bytes: &[u8]) -> bool
+pub fn any_has(tree: &[u8], lent: &[u8], n: usize, from: usize, to: usize, bytes: &[u8]) -> bool
     requires { ⌜ Stand (now tree) (now lent) × (n ≡ length (functionsOf gate (now tree))) × (to ≤ n) ⌝ }
     ensures { λ r. ⌜
         (r ≡ true → among (now (bytes .entry)) (map key (functionsOf gate (now (tree .entry)))) ≡ true)
@@ -104,13 +104,31 @@ fn any_has(tree: &[u8], lent: &[u8], n: usize, from: usize, to: usize, bytes: &[
     false
 }
 
-// Whether a function of the tree has the key. What stands before its first tab is the path.
-pub fn is_live(tree: &[u8], lent: &[u8], n: usize, bytes: &[u8]) -> bool
+// Functions by their numbers: from one up to another.
+pub struct Numbers {
+    pub from: usize,
+    pub to: usize,
+}
+
+// The functions that may have the key, or another with its path: those with the path that stands before its first tab.
+pub fn range(tree: &[u8], lent: &[u8], n: usize, bytes: &[u8]) -> Numbers
     requires { ⌜ Stand (now tree) (now lent) × (n ≡ length (functionsOf gate (now tree))) ⌝ }
-    ensures { λ r. ⌜ r ≡ among (now (bytes .entry)) (map key (functionsOf gate (now (tree .entry)))) ⌝ }
+    ensures { λ r. ⌜
+        (r .to ≤ n)
+        × ((k : List ℕ) → pathOf k ≡ pathOf (now (bytes .entry)) → Only k (functionsOf gate (now (tree .entry))) (r .from) (r .to))
+        ⌝ }
 {
     let end = baseline::field_end(bytes, 0);
     let from = first_from(tree, lent, n, &bytes[..end]);
     let to = first_behind(tree, lent, n, &bytes[..end]);
-    any_has(tree, lent, n, from, to, bytes)
+    Numbers { from, to }
+}
+
+// Whether a function of the tree has the key.
+pub fn is_live(tree: &[u8], lent: &[u8], n: usize, bytes: &[u8]) -> bool
+    requires { ⌜ Stand (now tree) (now lent) × (n ≡ length (functionsOf gate (now tree))) ⌝ }
+    ensures { λ r. ⌜ r ≡ among (now (bytes .entry)) (map key (functionsOf gate (now (tree .entry)))) ⌝ }
+{
+    let r = range(tree, lent, n, bytes);
+    any_has(tree, lent, n, r.from, r.to, bytes)
 }

@@ -1,20 +1,21 @@
 // The regression lines of check: each function of a scanned tree against what the baseline accepts of it. The lines are measured first, so that a caller
 // knows how many bytes they take before any of them is written.
 ghost use mathlib.Core.Path.{_≡_};
-ghost use mathlib.Core.Bool.{true};
+ghost use mathlib.Core.Bool.{true, false};
 ghost use mathlib.Core.List.{List};
-ghost use Prim.Native.Nat.{ℕ, _+_, _≤_};
+ghost use Prim.Native.Nat.{ℕ, _+_, _≤_, _<_};
 ghost use lib.Dec.{ltb};
-ghost use lib.ListN.{length};
+ghost use lib.ListN.{length, getD};
 ghost use Rattle.text_rules.specs.Bytes.{putAt};
 ghost use Rattle.gate_rules.specs.Baseline.{entriesOfLines, lookup};
 ghost use Rattle.gate_rules.specs.Check.{listed, moreBranches, moreLines, newAndOver, regressions};
 ghost use Rattle.gate_rules.specs.Functions.{key};
 ghost use Rattle.gate_rules.specs.Gate.{gate};
 ghost use Rattle.gate_rules.specs.Scan.{functionsOf};
-ghost use Rattle.functions.specs.Shown.{Lies, Stand, limitsOf, shown};
+ghost use Rattle.functions.specs.Shown.{Lies, Stand, limitsOf, noFun, shown};
 ghost use Rattle.baseline.specs.Ordered.{Unfalling, keysIn};
 ghost use Rattle.baseline.specs.Reads.{acceptedBy};
+ghost use Rattle.places.specs.Places.{Filled};
 ghost use Rattle.regressions.specs.Lines.{Measured, Small, Written, accepts, branchesLength, branchesOf, entryOf, grownOf, linesLength, linesOf, newLength, newOf, pair, pairLength, startLength, started, told};
 use baseline::Accepted;
 use baseline::Recorded;
@@ -242,19 +243,33 @@ fn put_new(tree: &[u8], f: Function, limits: Limits, out: &mut [u8], at: usize) 
 
 // ---- one function
 
-// What the baseline accepts of a function. Where its keys never fall, they are not all read.
-fn accepted(tree: &[u8], f: Function, lines: &[u8], ordered: bool) -> Accepted
-    requires { ⌜ Lies (now tree) f × (ordered ≡ true → Unfalling (keysIn (now lines))) ⌝ }
+// What the baseline accepts of the function k. Where its keys never fall, they are not all read; else the function's place tells the line.
+fn accepted(
+    tree: &[u8],
+    f: Function,
+    k: usize,
+    lines: &[u8],
+    ordered: bool,
+    places: &[u32; 8192],
+) -> Accepted
+    requires { ⌜
+        Lies (now tree) f
+        × (shown (now tree) f ≡ getD (functionsOf gate (now tree)) k noFun)
+        × (k < length (functionsOf gate (now tree)))
+        × (k < 8192)
+        × (ordered ≡ true → Unfalling (keysIn (now lines)))
+        × (ordered ≡ false → Filled (now lines) (functionsOf gate (now tree)) (now places))
+        ⌝ }
     ensures { λ r. ⌜ r ≡ acceptedBy (lookup (key (shown (now (tree .entry)) f)) (entriesOfLines (now (lines .entry)))) ⌝ }
 {
-    let from = f.path_at;
-    let to = f.path_end;
-    let start = f.name_at;
-    let end = f.name_end;
     if ordered {
-        return baseline::lookup_ordered(lines, &tree[from..to], &tree[start..end]);
+        return baseline::lookup_ordered(
+            lines,
+            functions::path_of(tree, f),
+            functions::name_of(tree, f),
+        );
     }
-    baseline::lookup(lines, &tree[from..to], &tree[start..end])
+    places::accepted_at(lines, places[k])
 }
 
 // Two sizes together.
@@ -325,9 +340,15 @@ pub fn measure(
     n: usize,
     lines: &[u8],
     ordered: bool,
+    places: &[u32; 8192],
     limits: Limits,
 ) -> Size
-    requires { ⌜ Stand (now tree) (now lent) × (n ≡ length (functionsOf gate (now tree))) × (ordered ≡ true → Unfalling (keysIn (now lines))) ⌝ }
+    requires { ⌜
+        Stand (now tree) (now lent)
+        × (n ≡ length (functionsOf gate (now tree)))
+        × (ordered ≡ true → Unfalling (keysIn (now lines)))
+        × (ordered ≡ false → Filled (now lines) (functionsOf gate (now tree)) (now places))
+        ⌝ }
     ensures { λ r. ⌜
         (r .count ≡ length (regressions (limitsOf limits) (entriesOfLines (now (lines .entry))) (functionsOf gate (now (tree .entry)))))
         × (r .bytes ≡ length (listed (regressions (limitsOf limits) (entriesOfLines (now (lines .entry))) (functionsOf gate (now (tree .entry))))))
@@ -340,7 +361,8 @@ pub fn measure(
     let mut k = 0;
     while k < n {
         let f = functions::function_at(tree, lent, k);
-        let size = size_against(f, accepted(tree, f, lines, ordered), limits);
+        let a = accepted(tree, f, k, lines, ordered, places);
+        let size = size_against(f, a, limits);
         count += size.count;
         bytes += size.bytes;
         k += 1;
@@ -355,6 +377,7 @@ pub fn put_all(
     n: usize,
     lines: &[u8],
     ordered: bool,
+    places: &[u32; 8192],
     limits: Limits,
     out: &mut [u8],
     at: usize,
@@ -364,6 +387,7 @@ pub fn put_all(
         × (n ≡ length (functionsOf gate (now tree)))
         × (at + length (listed (regressions (limitsOf limits) (entriesOfLines (now lines)) (functionsOf gate (now tree)))) ≤ length (now out))
         × (ordered ≡ true → Unfalling (keysIn (now lines)))
+        × (ordered ≡ false → Filled (now lines) (functionsOf gate (now tree)) (now places))
         ⌝ }
     ensures { λ r. ⌜
         (r ≡ at + length (listed (regressions (limitsOf limits) (entriesOfLines (now (lines .entry))) (functionsOf gate (now (tree .entry))))))
@@ -374,14 +398,8 @@ pub fn put_all(
     let mut k = 0;
     while k < n {
         let f = functions::function_at(tree, lent, k);
-        next = put_against(
-            tree,
-            f,
-            accepted(tree, f, lines, ordered),
-            limits,
-            out,
-            next,
-        );
+        let a = accepted(tree, f, k, lines, ordered, places);
+        next = put_against(tree, f, a, limits, out, next);
         k += 1;
     }
     next

@@ -38,7 +38,7 @@ put-all-requires c κs =
     let s = c .before .before .before .before .before .before .before .before .before .before in
     let a = s .args in
     let some : 1 ≤ a .count = omega (arith, c .before .before .before .before .before .if1 .left) in
-    (s .pre .0 .stand, s .pre .0 .count, omega (arith, s .pre .2, c .before .before .before .put-counted .ensures .0, verdict-some (a .count) (worseIn (limitsOf (a .limits)) (now (a .tree)) (now (a .lines))) (s .pre .1) some), s .pre .3)
+    (s .pre .0 .stand, s .pre .0 .count, omega (arith, s .pre .2, c .before .before .before .put-counted .ensures .0, verdict-some (a .count) (worseIn (limitsOf (a .limits)) (now (a .tree)) (now (a .lines))) (s .pre .1) some), s .pre .3, s .pre .4)
 
 returns-2 : tie.Need-returns-2
 returns-2 c =

@@ -17,13 +17,13 @@ use Rattle.regressions.proofs.measure.Statement.{statement}
 use Rattle.regressions.proofs.measure.Tie as tie
 
 abbrev Inv-loop : tie.InvT-loop
-Inv-loop tree lent n lines ordered limits count₀ bytes₀ k₀ count bytes k =
+Inv-loop tree lent n lines ordered places limits count₀ bytes₀ k₀ count bytes k =
     let here = left (limitsOf limits) (entriesOfLines lines) (functionsOf gate tree) k in
     let all = regressions (limitsOf limits) (entriesOfLines lines) (functionsOf gate tree) in
     (k ≤ n) × (count + length here ≡ length all) × (bytes + length (listed here) ≡ length (listed all)) × (count ≤ 2 * k) × (bytes ≤ 80000000 * k)
 
 abbrev μ-loop : tie.MeasureT-loop
-μ-loop tree lent n lines ordered limits count₀ bytes₀ k₀ count bytes k = n - k
+μ-loop tree lent n lines ordered places limits count₀ bytes₀ k₀ count bytes k = n - k
 
 loop-holds : tie.Need-loop-holds Inv-loop μ-loop
 loop-holds c = (omega arith, omega arith, omega arith, omega arith, omega arith)
@@ -33,7 +33,10 @@ function-at-requires c κs =
     let s = c .before .before .before .before .before in (s .pre .0, omega (arith, s .pre .1))
 
 accepted-requires : tie.Need-accepted-requires Inv-loop μ-loop
-accepted-requires c κs = (c .function-at .ensures .1, c .before .before .before .before .before .before .pre .2)
+accepted-requires c κs =
+    let s = c .before .before .before .before .before .before in
+    let f = c .function-at .ensures in
+    (f .1, f .0, omega (arith, s .pre .1), omega (arith, s .pre .0 .few, s .pre .1), s .pre .2, s .pre .3)
 
 size-against-requires : tie.Need-size-against-requires Inv-loop μ-loop
 size-against-requires c κs =

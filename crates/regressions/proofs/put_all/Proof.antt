@@ -18,13 +18,13 @@ use Rattle.regressions.proofs.put_all.Statement.{statement}
 use Rattle.regressions.proofs.put_all.Tie as tie
 
 abbrev Inv-loop : tie.InvT-loop
-Inv-loop tree lent n lines ordered limits out₀ at next₀ k₀ out next k =
+Inv-loop tree lent n lines ordered places limits out₀ at next₀ k₀ out next k =
     let here = left (limitsOf limits) (entriesOfLines lines) (functionsOf gate tree) k in
     let all = regressions (limitsOf limits) (entriesOfLines lines) (functionsOf gate tree) in
     (k ≤ n) × (length out ≡ length out₀) × (next + length (listed here) ≡ at + length (listed all)) × (putAt next (listed here) out ≡ putAt at (listed all) out₀)
 
 abbrev μ-loop : tie.MeasureT-loop
-μ-loop tree lent n lines ordered limits out₀ at next₀ k₀ out next k = n - k
+μ-loop tree lent n lines ordered places limits out₀ at next₀ k₀ out next k = n - k
 
 loop-holds : tie.Need-loop-holds Inv-loop μ-loop
 loop-holds c = (omega arith, refl, refl, refl)
@@ -34,7 +34,10 @@ function-at-requires c κs =
     let s = c .before .before .before .before .before .before in (s .pre .0, omega (arith, s .pre .1))
 
 accepted-requires : tie.Need-accepted-requires Inv-loop μ-loop
-accepted-requires c κs = (c .function-at .ensures .1, c .before .before .before .before .before .before .before .pre .3)
+accepted-requires c κs =
+    let s = c .before .before .before .before .before .before .before in
+    let f = c .function-at .ensures in
+    (f .1, f .0, omega (arith, s .pre .1), omega (arith, s .pre .0 .few, s .pre .1), s .pre .3, s .pre .4)
 
 put-against-requires : tie.Need-put-against-requires Inv-loop μ-loop
 put-against-requires c κs =
