@@ -17,10 +17,11 @@ use Rattle.text_rules.specs.Lines.{ended, fields, linesIn, split, withoutCR}
 use Rattle.text_rules.specs.Search.{bytesBefore, part}
 use Rattle.gate_rules.specs.Baseline.{Entry, entriesOfLines, entryOf, entryOfFields, laterOf, lookup}
 use Rattle.gate_rules.specs.Functions.{isComment, keyOf}
-use Rattle.baseline.specs.Reads.{Inside, acceptedBy, entryIn, hit, keyOfEntry, later, lineAt}
+use Rattle.baseline.specs.Reads.{Inside, KeyFrom, PathEnds, acceptedBy, entryIn, hit, keyOfEntry, later, lineAt}
 use Rattle.baseline.specs.Steps.{entries-end, entries-next, entryList}
 use Rattle.baseline.specs.declared.Accepted.{Accepted}
 use Rattle.baseline.specs.declared.Accepted.the-variants.{Measures, Unlisted}
+use Rattle.baseline.specs.declared.Key.the-variants.{Bytes}
 use Rattle.baseline.specs.declared.Line.{Line}
 use Rattle.baseline.specs.declared.Line.the-variants.{Entry as EntryOf, Nothing}
 use Rattle.baseline.specs.declared.Listed.{Listed}
@@ -65,6 +66,13 @@ module _ (s : List ℕ) (from to : ℕ) (h : to ≤ length s) (r : Line) (inside
         omega (arith, here .1),
         ap some (there ∙ sym (own-key (part from to s) l here)) ∙ ap keyOfEntry (ap (entryIn (part from to s)) (sym e) ∙ is),
       )
+
+  pub key-path : (path : ℕ) → PathEnds r path → (l : Listed) → r ≡ EntryOf l → KeyFrom (Bytes from (from + l .«name_end»)) from to path
+  key-path path p l e =
+      let here : Inside (part from to s) (EntryOf l) = rw e at inside in
+      let ends : l .«path_end» ≡ path = rw e at p in
+      let size : length (part from to s) ≤ to - from = simp (length-take) (omega arith) in
+      (refl, omega (arith, here .0), omega (arith, here .1))
 
   pub key-none : r ≡ Nothing → none ≡ keyOfEntry (entryOf (part from to s))
   key-none e = ap keyOfEntry (ap (entryIn (part from to s)) (sym e) ∙ is)

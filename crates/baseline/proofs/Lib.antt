@@ -6,4 +6,3 @@ mod Halving
 mod KeyOrder
 mod Keys
 mod Numbers
-mod Rise

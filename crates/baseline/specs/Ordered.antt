@@ -2,7 +2,7 @@
 use Prim.Native.Nat.{ℕ, _+_, _≤_}
 use mathlib.Core.Path.{_≡_, refl, ap, sym, _∙_}
 use mathlib.Core.Logic.{inl, inr}
-use mathlib.Core.Bool.{Bool, true, false}
+use mathlib.Core.Bool.{Bool, false}
 use mathlib.Core.List.{List, [], _∷_, _++_, append-assoc, append-nil, map}
 use mathlib.Core.Option.{Option, none, some}
 use lib.ListN.{length, drop}
@@ -14,8 +14,6 @@ use Rattle.gate_rules.specs.Baseline.{Entry, entriesOfLines, entryKey, entryOf}
 use Rattle.order.specs.Best.{lastOf}
 use Rattle.baseline.specs.Reads.{keyOfEntry, lineAt}
 use Rattle.baseline.specs.Steps.{entries-end, entries-next, entryList}
-use Rattle.baseline.specs.declared.Key.{Key}
-use Rattle.baseline.specs.declared.Key.the-variants.{Bytes, Nothing}
 
 -- no later key stands before an earlier one
 abbrev pub Unfalling : List (List ℕ) → Type 0
@@ -36,11 +34,6 @@ abbrev pub fallen : Option (List ℕ) → Option (List ℕ) → Bool
 fallen last none = false
 fallen none (some k) = false
 fallen (some l) (some k) = before k l
-
--- the last key, after a line more
-abbrev pub latest : Key → Key → Key
-latest last (Bytes from to) = Bytes from to
-latest last Nothing = last
 
 -- what is not before the last key is not before any
 not-before : (r s t : List ℕ) → before s r ≡ false → before t s ≡ false → before t r ≡ false
@@ -100,7 +93,7 @@ keys-next s from end to k e p q =
     ∙ ap (λ ks. ks ++ map entryKey rest) (line-key here ∙ ap oneKey (sym q))
 
 -- no line is left
-keys-end : (s : List ℕ) (at : ℕ) → length s ≤ at → keysIn (drop at s) ≡ []
+pub keys-end : (s : List ℕ) (at : ℕ) → length s ≤ at → keysIn (drop at s) ≡ []
 keys-end s at h = ap (map entryKey) (entries-end s at h)
 
 -- the keys up to a place, after a line more

@@ -1,5 +1,5 @@
 -- What the answers of this crate stand for, in the words of the rules.
-use Prim.Native.Nat.{ℕ, _+_, _<_, _≤_}
+use Prim.Native.Nat.{ℕ, _+_, _-_, _<_, _≤_}
 use mathlib.Core.Path.{_≡_}
 use mathlib.Core.List.{List}
 use mathlib.Core.Option.{Option, none, some}
@@ -38,6 +38,11 @@ abbrev pub Inside : List ℕ → Line → Type 0
 Inside line (EntryOf l) = (l .«path_end» < l .«name_end») × (l .«name_end» < length line) × (getD line (l .«path_end») 0 ≡ tab)
 Inside line Nothing = Unit {0}
 
+-- the path of an entry ends at a place
+abbrev pub PathEnds : Line → ℕ → Type 0
+PathEnds (EntryOf l) a = l .«path_end» ≡ a
+PathEnds Nothing a = Unit {0}
+
 -- an entry, if it has the key
 abbrev pub hit : List ℕ → Option Entry → Option Entry
 hit k none = none
@@ -51,6 +56,11 @@ keyIn s Absent = none
 abbrev pub KeyInside : List ℕ → Key → Type 0
 KeyInside s (Bytes from to) = (from ≤ to) × (to ≤ length s)
 KeyInside s Absent = Unit {0}
+
+-- a key begins where its line does, goes past the tab behind its path and ends in the line
+abbrev pub KeyFrom : Key → (from to path : ℕ) → Type 0
+KeyFrom (Bytes a b) from to path = (a ≡ from) × (path < b - a) × (b ≤ to)
+KeyFrom Absent from to path = Unit {0}
 
 abbrev pub keyOfEntry : Option Entry → Option (List ℕ)
 keyOfEntry none = none

@@ -13,8 +13,8 @@ ghost use Rattle.text_rules.specs.Utf8.{isUtf8};
 ghost use Rattle.gate_rules.specs.Baseline.{entriesOfLines, entryOf, entryWith, lookup};
 ghost use Rattle.gate_rules.specs.Functions.{keyOf};
 ghost use Rattle.baseline.specs.Halves.{Below, Between, Leads, below, beyond};
-ghost use Rattle.baseline.specs.Ordered.{Unfalling, fallen, keysIn, latest};
-ghost use Rattle.baseline.specs.Reads.{Inside, KeyInside, acceptedBy, entryIn, hit, keyIn, keyOfEntry, later, lineAt, numberOf};
+ghost use Rattle.baseline.specs.Ordered.{Unfalling, keysIn};
+ghost use Rattle.baseline.specs.Reads.{Inside, KeyFrom, KeyInside, PathEnds, acceptedBy, entryIn, hit, keyIn, keyOfEntry, later, lineAt, numberOf};
 
 const TAB: u8 = b'\t';
 
@@ -163,6 +163,7 @@ fn measured(line: &[u8], a: usize, b: usize, c: usize, d: usize) -> Line
         × (entryIn (now (line .entry)) r ≡ entryWith (part 0 a (now (line .entry))) (part (a + 1) b (now (line .entry)))
         (parseNumber 4294967295 (part (b + 1) c (now (line .entry))))
         (parseNumber 18446744073709551615 (part (c + 1) d (now (line .entry)))))
+        × PathEnds r a
         ⌝ }
 {
     let first = number(&line[b + 1..c], MAX_U32);
@@ -184,14 +185,14 @@ fn measured(line: &[u8], a: usize, b: usize, c: usize, d: usize) -> Line
     }
 }
 
-// The entry of a line: four fields, of which the last two are numbers. A line that starts with # has none.
-pub fn entry(line: &[u8]) -> Line
-    ensures { λ r. ⌜ Inside (now (line .entry)) r × (entryIn (now (line .entry)) r ≡ entryOf (now (line .entry))) ⌝ }
+// The entry of a line whose first field ends at a place: four fields, of which the last two are numbers. A line that starts with # has none.
+fn entry_with(line: &[u8], a: usize) -> Line
+    requires { ⌜ (a ≡ bytesBefore tab (now line)) × (a ≤ length (now line)) ⌝ }
+    ensures { λ r. ⌜ Inside (now (line .entry)) r × (entryIn (now (line .entry)) r ≡ entryOf (now (line .entry))) × PathEnds r a ⌝ }
 {
     if utf8::byte(line, 0) == HASH {
         return Line::Nothing;
     }
-    let a = field_end(line, 0);
     if a == line.len() {
         return Line::Nothing;
     }
@@ -205,6 +206,14 @@ pub fn entry(line: &[u8]) -> Line
     }
     let d = field_end(line, c + 1);
     measured(line, a, b, c, d)
+}
+
+// The entry of a line.
+pub fn entry(line: &[u8]) -> Line
+    ensures { λ r. ⌜ Inside (now (line .entry)) r × (entryIn (now (line .entry)) r ≡ entryOf (now (line .entry))) ⌝ }
+{
+    let path = field_end(line, 0);
+    entry_with(line, path)
 }
 
 // Whether the bytes are those of path, tab and name. The name is compared first: it tells the functions of a file apart.
@@ -230,58 +239,33 @@ pub enum Key {
     Nothing,
 }
 
-// The key of the line that stands from one place up to another. It stands in the line as it is: path, tab and name.
-pub fn key_at(baseline: &[u8], from: usize, to: usize) -> Key
-    requires { ⌜ (from ≤ to) × (to ≤ length (now baseline)) ⌝ }
-    ensures { λ r. ⌜ KeyInside (now (baseline .entry)) r × (keyIn (now (baseline .entry)) r ≡ keyOfEntry (entryOf (part from to (now (baseline .entry))))) ⌝ }
+// The key of the line that stands from one place up to another and whose first field has `path` bytes. It stands in the line as it is: path, tab and name.
+pub fn key_with(baseline: &[u8], from: usize, to: usize, path: usize) -> Key
+    requires { ⌜
+        (from ≤ to)
+        × (to ≤ length (now baseline))
+        × (path ≡ bytesBefore tab (part from to (now baseline)))
+        × (path ≤ length (part from to (now baseline)))
+        ⌝ }
+    ensures { λ r. ⌜
+        KeyInside (now (baseline .entry)) r
+        × (keyIn (now (baseline .entry)) r ≡ keyOfEntry (entryOf (part from to (now (baseline .entry)))))
+        × KeyFrom r from to path
+        ⌝ }
 {
-    match entry(&baseline[from..to]) {
+    match entry_with(&baseline[from..to], path) {
         Line::Entry(e) => Key::Bytes(from, from + e.name_end),
         Line::Nothing => Key::Nothing,
     }
 }
 
-// Whether the key of a line stands before the last key before it. Where there is none, it does not.
-fn falls(baseline: &[u8], last: Key, here: Key) -> bool
-    requires { ⌜ KeyInside (now baseline) last × KeyInside (now baseline) here ⌝ }
-    ensures { λ r. ⌜ r ≡ fallen (keyIn (now (baseline .entry)) last) (keyIn (now (baseline .entry)) here) ⌝ }
+// The key of the line that stands from one place up to another.
+pub fn key_at(baseline: &[u8], from: usize, to: usize) -> Key
+    requires { ⌜ (from ≤ to) × (to ≤ length (now baseline)) ⌝ }
+    ensures { λ r. ⌜ KeyInside (now (baseline .entry)) r × (keyIn (now (baseline .entry)) r ≡ keyOfEntry (entryOf (part from to (now (baseline .entry))))) ⌝ }
 {
-    match here {
-        Key::Bytes(from, to) => match last {
-            Key::Bytes(a, b) => order::before(&baseline[from..to], &baseline[a..b]),
-            Key::Nothing => false,
-        },
-        Key::Nothing => false,
-    }
-}
-
-// The last key, after a line more.
-fn latest(last: Key, here: Key) -> Key
-    ensures { λ r. ⌜ r ≡ latest last here ⌝ }
-{
-    match here {
-        Key::Bytes(from, to) => Key::Bytes(from, to),
-        Key::Nothing => last,
-    }
-}
-
-// Whether no key stands before that of an earlier line, as in a baseline that update wrote.
-pub fn keys_rise(baseline: &[u8]) -> bool
-    ensures { λ r. ⌜ (r ≡ true → Unfalling (keysIn (now (baseline .entry)))) ⌝ }
-{
-    let mut last = Key::Nothing;
-    let mut from = 0;
-    while from < baseline.len() {
-        let end = line_end(baseline, from);
-        let to = trimmed_end(baseline, from, end);
-        let here = key_at(baseline, from, to);
-        if falls(baseline, last, here) {
-            return false;
-        }
-        last = latest(last, here);
-        from = end + 1;
-    }
-    true
+    let path = field_end(&baseline[from..to], 0);
+    key_with(baseline, from, to, path)
 }
 
 // The measures that an entry accepts.

@@ -18,7 +18,7 @@ ghost use Rattle.gate_rules.specs.Tree.{treeRefusal};
 ghost use Rattle.functions.specs.Shown.{limitsOf};
 ghost use Rattle.baseline.specs.Ordered.{Unfalling, keysIn};
 ghost use Rattle.places.specs.Places.{Filled};
-ghost use Rattle.stale.specs.Taken.{AllStand, staleIn};
+ghost use Rattle.in_order.specs.StaleKeys.{AllStand, staleIn};
 ghost use Rattle.gate_check.specs.Checks.{Checks, Refuses, Tells};
 ghost use Rattle.gate_check.specs.Texts.{someStale, staleLength, verdictLength, worseIn};
 use functions::Limits;
@@ -77,6 +77,7 @@ fn put_stale_text(
         × (count ≡ length (staleIn (now tree) (now lines)))
         × (1 ≤ count)
         × (at + someStale count (length (listed (map spaced (staleIn (now tree) (now lines))))) ≤ length (now output))
+        × (length (now lines) ≤ 33554432)
         × (ordered ≡ true → Unfalling (keysIn (now lines)))
         ⌝ }
     ensures { λ r. ⌜
@@ -86,7 +87,7 @@ fn put_stale_text(
 {
     let words = listing::put_number(output, at, count as u64);
     let keys = listing::put_text(output, words, b" baseline entries no longer exist:\n");
-    let end = stale::put_all(tree, lent, n, lines, ordered, count, output, keys);
+    let end = stale::put_all(tree, lent, n, lines, ordered, output, keys);
     listing::put_text(output, end, b"run --update to drop them\n")
 }
 
@@ -105,6 +106,7 @@ fn put_stale(
         AllStand (now tree) (now lent) n
         × (count ≡ length (staleIn (now tree) (now lines)))
         × (at + length (staleText (staleIn (now tree) (now lines))) ≤ length (now output))
+        × (length (now lines) ≤ 33554432)
         × (ordered ≡ true → Unfalling (keysIn (now lines)))
         ⌝ }
     ensures { λ r. ⌜
@@ -183,12 +185,12 @@ fn told(
         Tells r (limitsOf limits) (entriesOfLines (now (lines .entry))) (functionsOf gate (now (tree .entry))) (now (output .entry)) (now (output .exit))
         ⌝ }
 {
-    let ordered = baseline::keys_rise(lines);
+    let gone = stale::measure(tree, lent, n, lines);
+    let ordered = gone.ordered;
     let mut places = [0u32; 8192];
     if !ordered {
         places::fill(tree, lent, n, lines, &mut places);
     }
-    let gone = stale::measure(tree, lent, n, lines, ordered);
     let worse = regressions::measure(tree, lent, n, lines, ordered, &places, limits);
     let bytes = stale_length(gone.count, gone.bytes) + verdict_length(worse.count, worse.bytes);
     if output.len() < bytes {

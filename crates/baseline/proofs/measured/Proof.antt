@@ -1,4 +1,5 @@
 -- `baseline::measured` meets its contract: an entry is there exactly if both numbers are read, and the first is within u32.
+use mathlib.Core.Path.{refl}
 use native.Mathlib.Omega.{arith}
 use borrow.Author.Needs.{needs}
 use Rattle.text_rules.specs.DecimalLaws.{number-read}
@@ -21,7 +22,7 @@ returns c =
     let first = second .before .before in
     let x = was-read _ _ _ (first .number .ensures) (f .first .given .1) in
     let y = was-read _ _ _ (second .number2 .ensures) (c .before .second .given .1) in
-    ((omega arith, omega arith, first .before .before .before .pre .4), both-read _ _ _ _ _ _ x y)
+    ((omega arith, omega arith, first .before .before .before .pre .4), both-read _ _ _ _ _ _ x y, refl)
 
 returns-2 : tie.Need-returns-2
 returns-2 c =
@@ -30,13 +31,13 @@ returns-2 c =
     let first = second .before .before in
     let x = was-read _ _ _ (first .number .ensures) (f .first .given .1) in
     let y = was-read _ _ _ (second .number2 .ensures) (c .enum-told .given .1) in
-    (tt, second-bad _ _ _ _ _ x y)
+    (tt, second-bad _ _ _ _ _ x y, tt)
 
 returns-3 : tie.Need-returns-3
 returns-3 c =
     let first = c .before .before .before .before in
     let x = was-read _ _ _ (first .number .ensures) (c .enum-told2 .given .1) in
-    (tt, first-bad _ _ _ _ x)
+    (tt, first-bad _ _ _ _ x, tt)
 
 pub measured-spec : {M : Type 1} → statement M
 measured-spec =

@@ -6,14 +6,14 @@ use denote.Ref.{now}
 use borrow.Author.Needs.{needs}
 use Rattle.text_rules.specs.Bytes.{putAt}
 use Rattle.text_rules.specs.WriterLaws.{Puts, puts-all, puts-none, puts-then}
-use Rattle.stale.specs.Taken.{staleIn}
+use Rattle.in_order.specs.StaleKeys.{staleIn}
 use Rattle.gate_check.specs.Texts.{stale-some, stale-text, staleParts}
 use Rattle.gate_check.proofs.put_stale_text.Statement.{statement}
 use Rattle.gate_check.proofs.put_stale_text.Tie as tie
 
 put-all-requires : tie.Need-put-all-requires
 put-all-requires c κs =
-    let s = c .before .before .before .before .before .before .before .before .before .before .before .before .before .before in (s .pre .0, s .pre .1, omega arith, s .pre .4)
+    let s = c .before .before .before .before .before .before .before .before .before .before .before .before .before .before in (s .pre .0, s .pre .4, omega arith, s .pre .5)
 
 returns : tie.Need-returns
 returns c =

@@ -28,13 +28,13 @@ fill-requires c κs =
 
 measure-requires-2 : tie.Need-measure-requires-2
 measure-requires-2 c κs =
-    let joined = c .before .before in
-    let rose = joined .before in
-    let s = rose .before .before .before .before .before in
+    let joined = c .before in
+    let gone = joined .before in
+    let s = gone .before .before .before .before .before in
     let a = s .args in (
       s .pre .0 .stand,
       s .pre .0 .count,
-      rose .keys-rise .ensures,
+      gone .measure .ensures .0,
       λ e. ⊎-elim (λ w. subst (Filled (now (a .lines)) (functionsOf gate (now (a .tree)))) (sym (w .3)) (w .2 .ensures)) (λ w. absurd (true-false _ (not-false _ (w .0 .left)) e)) (joined .if1 .came),
     )
 
@@ -44,15 +44,14 @@ returns c =
     let verdict = test .before in
     let length-of = verdict .before in
     let worse = length-of .before in
-    let gone = worse .before .before in
-    let joined = gone .before in
-    let rose = joined .before in
-    let s = rose .before .before .before .before .before in
+    let joined = worse .before .before in
+    let gone = joined .before in
+    let s = gone .before .before .before .before .before in
     let a = s .args in
     let L = limitsOf (a .limits) in
     let es = entriesOfLines (now (a .lines)) in
     let fs = functionsOf gate (now (a .tree)) in
-    let bytes = measured-length L es fs _ _ _ _ (gone .measure .ensures .0) (gone .measure .ensures .1) (worse .measure2 .ensures .0) (worse .measure2 .ensures .1) in
+    let bytes = measured-length L es fs _ _ _ _ (gone .measure .ensures .1 .0) (gone .measure .ensures .1 .1) (worse .measure2 .ensures .0) (worse .measure2 .ensures .1) in
     tells-short (c .refusal .result) L es fs (now (a .output)) (omega (arith, test .if2 .taken, length-of .stale-length .ensures .0, verdict .verdict-length .ensures .0, bytes)) (c .refusal .ensures)
 
 put-stale-requires : tie.Need-put-stale-requires
@@ -61,16 +60,15 @@ put-stale-requires c κs =
     let verdict = test .before in
     let length-of = verdict .before in
     let worse = length-of .before in
-    let gone = worse .before .before in
-    let joined = gone .before in
-    let rose = joined .before in
-    let s = rose .before .before .before .before .before in
+    let joined = worse .before .before in
+    let gone = joined .before in
+    let s = gone .before .before .before .before .before in
     let a = s .args in
     let L = limitsOf (a .limits) in
     let es = entriesOfLines (now (a .lines)) in
     let fs = functionsOf gate (now (a .tree)) in
-    let bytes = measured-length L es fs _ _ _ _ (gone .measure .ensures .0) (gone .measure .ensures .1) (worse .measure2 .ensures .0) (worse .measure2 .ensures .1) in
-    (s .pre .0, gone .measure .ensures .0, omega (arith, test .if2 .left, length-of .stale-length .ensures .0, verdict .verdict-length .ensures .0, bytes, both-length L es fs), rose .keys-rise .ensures)
+    let bytes = measured-length L es fs _ _ _ _ (gone .measure .ensures .1 .0) (gone .measure .ensures .1 .1) (worse .measure2 .ensures .0) (worse .measure2 .ensures .1) in
+    (s .pre .0, gone .measure .ensures .1 .0, omega (arith, test .if2 .left, length-of .stale-length .ensures .0, verdict .verdict-length .ensures .0, bytes, both-length L es fs), s .pre .2, gone .measure .ensures .0)
 
 put-verdict-requires : tie.Need-put-verdict-requires
 put-verdict-requires c κs =
@@ -80,19 +78,18 @@ put-verdict-requires c κs =
     let verdict = test .before in
     let length-of = verdict .before in
     let worse = length-of .before in
-    let gone = worse .before .before in
-    let joined = gone .before in
-    let rose = joined .before in
-    let s = rose .before .before .before .before .before in
+    let joined = worse .before .before in
+    let gone = joined .before in
+    let s = gone .before .before .before .before .before in
     let a = s .args in
     let L = limitsOf (a .limits) in
     let es = entriesOfLines (now (a .lines)) in
     let fs = functionsOf gate (now (a .tree)) in
-    let bytes = measured-length L es fs _ _ _ _ (gone .measure .ensures .0) (gone .measure .ensures .1) (worse .measure2 .ensures .0) (worse .measure2 .ensures .1) in (
+    let bytes = measured-length L es fs _ _ _ _ (gone .measure .ensures .1 .0) (gone .measure .ensures .1 .1) (worse .measure2 .ensures .0) (worse .measure2 .ensures .1) in (
       s .pre .0,
       worse .measure2 .ensures .0,
       omega (arith, kept .output .given, test .if2 .left, put .put-stale .ensures .0, length-of .stale-length .ensures .0, verdict .verdict-length .ensures .0, bytes, both-length L es fs),
-      rose .keys-rise .ensures,
+      gone .measure .ensures .0,
       λ e. ⊎-elim (λ w. subst (Filled (now (a .lines)) (functionsOf gate (now (a .tree)))) (sym (w .3)) (w .2 .ensures)) (λ w. absurd (true-false _ (not-false _ (w .0 .left)) e)) (joined .if1 .came),
     )
 
@@ -100,7 +97,7 @@ cast-t25 : tie.Need-cast-t25
 cast-t25 c =
     let verdict = c .before .before in
     let put = verdict .before .before .before .before .before in
-    let s = put .before .before .before .before .before .before .before .before .before .before .before .before .before .before in
+    let s = put .before .before .before .before .before .before .before .before .before .before .before .before .before in
     let a = s .args in
     let L = limitsOf (a .limits) in
     let es = entriesOfLines (now (a .lines)) in
@@ -118,8 +115,14 @@ cast-t25 c =
 cast-t26 : tie.Need-cast-t26
 cast-t26 c =
     let put = c .before .before .before .before .before .before .before in
-    let s = put .before .before .before .before .before .before .before .before .before .before .before .before .before .before in
+    let s = put .before .before .before .before .before .before .before .before .before .before .before .before .before in
     record { fits = omega (arith, s .pre .0 .count, s .pre .0 .stand .few) }
+
+cast-t28 : tie.Need-cast-t28
+cast-t28 c =
+    let put = c .before .before .before .before .before .before .before .before .before in
+    let gone = put .before .before .before .before .before .before .before .before in
+    record { fits = omega (arith, gone .measure .ensures .1 .2) }
 
 returns-2 : tie.Need-returns-2
 returns-2 c =
@@ -129,18 +132,17 @@ returns-2 c =
     let verdict = test .before in
     let length-of = verdict .before in
     let worse = length-of .before in
-    let gone = worse .before .before in
-    let joined = gone .before in
-    let rose = joined .before in
-    let s = rose .before .before .before .before .before in
+    let joined = worse .before .before in
+    let gone = joined .before in
+    let s = gone .before .before .before .before .before in
     let a = s .args in
     let L = limitsOf (a .limits) in
     let es = entriesOfLines (now (a .lines)) in
     let fs = functionsOf gate (now (a .tree)) in
-    let bytes = measured-length L es fs _ _ _ _ (gone .measure .ensures .0) (gone .measure .ensures .1) (worse .measure2 .ensures .0) (worse .measure2 .ensures .1) in
+    let bytes = measured-length L es fs _ _ _ _ (gone .measure .ensures .1 .0) (gone .measure .ensures .1 .1) (worse .measure2 .ensures .0) (worse .measure2 .ensures .1) in
     let fits : length (listing L es fs) ≤ length (now (a .output)) = omega (arith, test .if2 .left, length-of .stale-length .ensures .0, verdict .verdict-length .ensures .0, bytes) in
     let both = both-put L es fs _ _ (now (a .output)) _ _ fits (put .put-stale .ensures) (wrote .put-verdict .ensures) in
-    tells-whole _ L es fs (now (a .output)) _ fits (refl, both .0, s .pre .0 .count, worse .measure2 .ensures .0, gone .measure .ensures .0) (both .1)
+    tells-whole _ L es fs (now (a .output)) _ fits (refl, both .0, s .pre .0 .count, worse .measure2 .ensures .0, gone .measure .ensures .1 .0) (both .1)
 
 pub told-spec : {M : Type 1} → statement M
 told-spec =
@@ -148,7 +150,6 @@ told-spec =
     (tie.spec
     (λ c κs. search needs)
     fill-requires
-    (λ c κs. search needs)
     measure-requires-2
     (λ c κs. search needs)
     (λ c κs. search needs)
@@ -160,6 +161,6 @@ told-spec =
     cast-t25
     cast-t26
     (λ c. search needs)
-    (λ c. search needs)
+    cast-t28
     (λ c. search needs)
     returns-2)

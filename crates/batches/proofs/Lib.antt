@@ -1,0 +1,5 @@
+-- The laws that the functions cite.
+mod Inserting
+mod Lines
+mod Taking
+mod Writing

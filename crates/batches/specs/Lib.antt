@@ -1,0 +1,4 @@
+pub mod Behind
+pub mod Insert
+pub mod Gathered
+pub mod Held

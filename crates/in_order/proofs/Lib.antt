@@ -1,0 +1,3 @@
+-- The laws that the functions cite.
+mod Rise
+mod Passing

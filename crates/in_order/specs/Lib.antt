@@ -1,0 +1,5 @@
+pub mod StaleKeys
+pub mod KeyLines
+pub mod InOrder
+pub mod Common
+pub mod Paths
