@@ -175,7 +175,7 @@ fn rows(real: &Real) -> Vec<(Input<'_>, Call)> {
         rows.push((Input::Alive { ordered }, Call::Check));
         rows.push((Input::Stale { ordered }, Call::Check));
     }
-    for piece in ["fn a(", "fn a(){", "#[cfg(test)]{", "fn a(){{}", "fn a()[", "fn a()<", "fn a()[{", "<fn a()<[{}]>>", "<fn a()<{}>[;]", "fn a()<[{;}]>"] {
+    for piece in ["fn a(", "fn a(){", "#[cfg(test)]{", "fn a(){{}", "fn a()[", "fn a()<", "fn a()[{", "<fn a()<[{}]>>"] {
         rows.push((Input::Unclosed(piece), Call::Scan));
     }
     for (front, back) in [("fn a(", ")"), ("[", "fn a()]"), ("fn a()[", "]"), ("fn a()<", ">"), ("fn a([", "])")] {
@@ -185,7 +185,6 @@ fn rows(real: &Real) -> Vec<(Input<'_>, Call)> {
         rows.extend(["{", "{ {}"].map(|tail| (Input::Behind(front, back, tail), Call::Scan)));
     }
     rows.push((Input::Behind("fn a()[fn a()]", "", "[[{}]]"), Call::Scan));
-    rows.push((Input::Behind("<fn a()<[{]>>", "", "}"), Call::Scan));
     rows
 }
 
