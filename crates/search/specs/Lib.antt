@@ -4,3 +4,4 @@ pub mod BodyLaws
 pub mod EndLaws
 pub mod FlatLaws
 pub mod Place
+pub mod VainLaws

@@ -106,6 +106,28 @@ pub record KnowsUnflat (s : List ℕ) (u : Unflat) : Type 0 where
   pub no-brace : Absent braceOpen s (u .last)
   pub none-there : (angle opened closed : ℕ) → Lost u angle opened closed → bodyAt angle opened closed (u .at) (drop (u .at) s) ≡ none
   pub inside : u .at ≤ length s
+  pub vain-there : u .vain ≡ true → bodyAt (u .angle) (u .opened) (u .closed) (u .at) (drop (u .at) s) ≡ none
+
+-- counts at the known place with the depths of a search that found none there
+pub record Repeats (u : Unflat) (n : Counts) : Type 0 where
+  pub is-vain : u .vain ≡ true
+  pub same-angle : n .angle ≡ u .angle
+  pub same-square : n .opened + u .closed ≡ u .opened + n .closed
+
+-- what is known after a search with these counts at the known place found none
+abbrev pub noted : Unflat → Counts → Unflat
+noted u n =
+    record {
+      last = u .last;
+      at = u .at;
+      angles = u .angles;
+      squares = u .squares;
+      crossed = u .crossed;
+      vain = true;
+      angle = n .angle;
+      opened = n .opened;
+      closed = n .closed;
+    }
 
 -- the search finds no body from its place on, with the counts that it has there
 pub record Vain (s : List ℕ) (v : Bare) : Type 0 where

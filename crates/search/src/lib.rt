@@ -12,7 +12,7 @@ ghost use Rattle.text_rules.specs.Classes.{braceClose, braceOpen, isSpace, isWo
 ghost use Rattle.text_rules.specs.Search.{countAfter, find, run, startsWith};
 ghost use Rattle.source_rules.specs.Brackets.{partner};
 ghost use Rattle.source_rules.specs.Finding.{angleAfter, bodyAt, flat, isFn};
-ghost use Rattle.search.specs.Place.{Absent, Counted, Halts, Knows, KnowsUnflat, Learned, Lost, Meets, Passable, Passed, Reaches, Tallies, Vain, bodyFrom, placeOf};
+ghost use Rattle.search.specs.Place.{Absent, Counted, Halts, Knows, KnowsUnflat, Learned, Lost, Meets, Passable, Passed, Reaches, Repeats, Tallies, Vain, bodyFrom, noted, placeOf};
 
 // A place in a text, if there is one.
 pub enum Place {
@@ -471,13 +471,18 @@ fn body_before(s: &[u8], from: usize, to: usize, n: Counts) -> Reached
 }
 
 // What is known of searches for a body: no brace stands from `last` on, and one that has more angle brackets open at the place `at` than `angles`,
-// more square ones open than `squares`, or more square ones closed that were never opened than `crossed`, finds none.
+// more square ones open than `squares`, or more square ones closed that were never opened than `crossed`, finds none. Where `vain` tells so, neither
+// does one that has the counts `angle`, `opened` and `closed` there.
 pub struct Unflat {
     pub last: usize,
     pub at: usize,
     pub angles: usize,
     pub squares: usize,
     pub crossed: usize,
+    pub vain: bool,
+    pub angle: usize,
+    pub opened: usize,
+    pub closed: usize,
 }
 
 // Whether a search with these counts at the known place is known to find none.
@@ -491,6 +496,40 @@ fn is_lost(u: Unflat, n: Counts) -> bool
         return u.squares < n.opened - n.closed;
     }
     u.crossed < n.closed - n.opened
+}
+
+// Whether a search with these counts at the known place is at the same depths there as one that found none. Of square brackets only the
+// difference counts.
+fn is_vain(u: Unflat, n: Counts) -> bool
+    ensures { λ r. ⌜ (r ≡ true → Repeats u n) ⌝ }
+{
+    if !u.vain {
+        return false;
+    }
+    if n.angle != u.angle {
+        return false;
+    }
+    if less(n.opened, n.closed) != less(u.opened, u.closed) {
+        return false;
+    }
+    less(n.closed, n.opened) == less(u.closed, u.opened)
+}
+
+// What is known after a search with these counts at the known place found none.
+fn noted(u: Unflat, n: Counts) -> Unflat
+    ensures { λ r. ⌜ r ≡ noted u n ⌝ }
+{
+    Unflat {
+        last: u.last,
+        at: u.at,
+        angles: u.angles,
+        squares: u.squares,
+        crossed: u.crossed,
+        vain: true,
+        angle: n.angle,
+        opened: n.opened,
+        closed: n.closed,
+    }
 }
 
 // What is known after a search from a place on found no body. The text is read to its end again only where the place that is known is too far on,
@@ -511,6 +550,10 @@ fn unflat_further(s: &[u8], from: usize, u: Unflat) -> Unflat
         angles: closings(s, b'<', b'>', at),
         squares: closings(s, b'[', b']', at),
         crossed: closings(s, b']', b'[', at),
+        vain: false,
+        angle: 0,
+        opened: 0,
+        closed: 0,
     }
 }
 
@@ -542,7 +585,42 @@ fn body_on(s: &[u8], from: usize, n: Counts, u: Unflat) -> Opened
     }
 }
 
-// The brace that opens a body. A text of many brackets that are never closed is not read to its end for each signature.
+// The brace that opens a body, sought on from the known place, with the counts that a search from before it has there.
+fn body_there(s: &[u8], from: usize, n: Counts, u: Unflat) -> Opened
+    requires { ⌜ (from ≤ length (now s)) × Counted n (u .at) × KnowsUnflat (now s) u ⌝ }
+    ensures { λ r. ⌜ (placeOf (r .place) ≡ bodyFrom (now (s .entry)) (u .at) n) × KnowsUnflat (now (s .entry)) (r .flats) ⌝ }
+{
+    if is_lost(u, n) {
+        return Opened {
+            place: Place::Nowhere,
+            flats: unflat_further(s, from, u),
+        };
+    }
+    if is_vain(u, n) {
+        return Opened {
+            place: Place::Nowhere,
+            flats: unflat_further(s, from, u),
+        };
+    }
+    let met = body_before(s, u.at, s.len(), n);
+    match met {
+        Reached::Brace(p) => Opened {
+            place: Place::At(p),
+            flats: u,
+        },
+        Reached::Ended => Opened {
+            place: Place::Nowhere,
+            flats: noted(u, n),
+        },
+        Reached::Further(m) => Opened {
+            place: Place::Nowhere,
+            flats: unflat_further(s, from, noted(u, n)),
+        },
+    }
+}
+
+// The brace that opens a body. A text of many brackets that are never closed is not read to its end for each signature, nor is one in which no
+// brace stands at depth 0.
 fn body_open(s: &[u8], from: usize, u: Unflat) -> Opened
     requires { ⌜ (from ≤ length (now s)) × KnowsUnflat (now s) u ⌝ }
     ensures { λ r. ⌜ (placeOf (r .place) ≡ bodyAt 0 0 0 from (drop from (now (s .entry)))) × KnowsUnflat (now (s .entry)) (r .flats) ⌝ }
@@ -571,15 +649,7 @@ fn body_open(s: &[u8], from: usize, u: Unflat) -> Opened
             place: Place::Nowhere,
             flats: u,
         },
-        Reached::Further(m) => {
-            if is_lost(u, m) {
-                return Opened {
-                    place: Place::Nowhere,
-                    flats: unflat_further(s, from, u),
-                };
-            }
-            body_on(s, u.at, m, u)
-        }
+        Reached::Further(m) => body_there(s, from, m, u),
     }
 }
 
@@ -618,6 +688,10 @@ pub fn nothing_learnt(s: &[u8]) -> Learnt
             angles: 0,
             squares: 0,
             crossed: 0,
+            vain: false,
+            angle: 0,
+            opened: 0,
+            closed: 0,
         },
         rounds: known_first(s, b'(', b')'),
         braces: known_first(s, b'{', b'}'),

@@ -24,43 +24,37 @@ body-before-requires c κs =
     let b = c .before .before .before .before .before in
     (c .if2 .left, b .pre .1 .inside, record { angle-most = omega arith; opened-most = omega arith; closed-most = omega arith })
 
+body-there-requires : tie.Need-body-there-requires
+body-there-requires c κs =
+    let k = c .before in
+    let o = k .before .before in
+    let b = o .before .before .before .before .before .before in
+    let a = b .args in
+    let e = subst (Reaches (a .s .now) (a .from) (a .u .at) _) (k .near2 .given .1) (o .body-before .ensures) in
+    (b .pre .0, e .1, b .pre .1)
+
 returns-3 : tie.Need-returns-3
 returns-3 c =
-    let k = c .before .before .before .before in
-    let b = k .before .before .before .before .before .before .before .before in
+    let k = c .before in
+    let o = k .before .before in
+    let b = o .before .before .before .before .before .before in
     let a = b .args in
-    let e = subst (Reaches (a .s .now) (a .from) (a .u .at) _) (k .near2 .given .1) (k .before .before .body-before .ensures) in
-    (sym (e .0 ∙ b .pre .1 .none-there _ _ _ (c .before .before .is-lost .ensures (c .before .if3 .taken))), c .unflat-further .ensures)
-
-body-on-requires-2 : tie.Need-body-on-requires-2
-body-on-requires-2 c κs =
-    let k = c .before .before .before in
-    let b = k .before .before .before .before .before .before .before .before in
-    let a = b .args in
-    let e = subst (Reaches (a .s .now) (a .from) (a .u .at) _) (k .near2 .given .1) (k .before .before .body-before .ensures) in
-    (b .pre .1 .inside, e .1, b .pre .1)
+    (sym (subst (Reaches (a .s .now) (a .from) (a .u .at) _) (k .near .given .1) (o .body-before .ensures)), b .pre .1)
 
 returns-4 : tie.Need-returns-4
 returns-4 c =
-    let k = c .before in
-    let b = k .before .before .before .before .before .before .before .before in
-    let a = b .args in
-    (sym (subst (Reaches (a .s .now) (a .from) (a .u .at) _) (k .near .given .1) (k .before .before .body-before .ensures)), b .pre .1)
-
-returns-5 : tie.Need-returns-5
-returns-5 c =
     let o = c .before .before in
     let b = o .before .before .before .before .before .before in
     let a = b .args in
     (sym (subst (Reaches (a .s .now) (a .from) (a .u .at) _) (c .enum-told .given .1) (o .body-before .ensures)), b .pre .1)
 
-returns-6 : tie.Need-returns-6
-returns-6 c =
-    let k = c .before .before .before .before in
-    let b = k .before .before .before .before .before .before .before .before in
-    let a = b .args in
-    let e = subst (Reaches (a .s .now) (a .from) (a .u .at) _) (k .near2 .given .1) (k .before .before .body-before .ensures) in
-    let r = c .body-on2 .ensures in
+returns-5 : tie.Need-returns-5
+returns-5 c =
+    let k = c .before .before in
+    let o = k .before .before in
+    let a = o .before .before .before .before .before .before .args in
+    let e = subst (Reaches (a .s .now) (a .from) (a .u .at) _) (k .near2 .given .1) (o .body-before .ensures) in
+    let r = c .body-there .ensures in
     (r .0 ∙ sym (e .0), r .1)
 
 pub body-open-spec : {M : Type 1} → statement M
@@ -74,10 +68,7 @@ body-open-spec =
     (λ c. search needs)
     (λ c. search needs)
     (λ c. search needs)
-    (λ c κs. search needs)
-    (λ c κs. search needs)
+    body-there-requires
     returns-3
-    body-on-requires-2
     returns-4
-    returns-5
-    returns-6)
+    returns-5)

@@ -14,7 +14,7 @@ returns c =
       vain = record { none-there = λ e. absurd (true-false false e refl); angle-most = omega arith; opened-most = omega arith; closed-most = omega arith };
       rounds-known = c .before .known-first .ensures;
       braces-known = c .known-first2 .ensures;
-      flats-known = record { no-brace = c .before .before .behind-last .ensures .0; none-there = λ angle opened closed h. body-end _ _ (omega arith) angle opened closed; inside = omega arith };
+      flats-known = record { no-brace = c .before .before .behind-last .ensures .0; none-there = λ angle opened closed h. body-end _ _ (omega arith) angle opened closed; inside = omega arith; vain-there = λ e. absurd (true-false false e refl) };
     }
 
 pub nothing-learnt-spec : {M : Type 1} → statement M
