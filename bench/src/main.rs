@@ -185,6 +185,7 @@ fn rows(real: &Real) -> Vec<(Input<'_>, Call)> {
         rows.extend(["{", "{ {}"].map(|tail| (Input::Behind(front, back, tail), Call::Scan)));
     }
     rows.push((Input::Behind("fn a()[fn a()]", "", "[[{}]]"), Call::Scan));
+    rows.push((Input::Behind("<fn a()<[{]>>[fn a()<{>]", "", "}"), Call::Scan));
     rows
 }
 
