@@ -76,18 +76,33 @@ fn record_of(number: usize, place: usize, f: Found) -> Record
     }
 }
 
-// The records of a blanked text's functions, the first with the number `done`; answers the number behind the last.
-fn scan_text(s: &[u8], number: usize, place: usize, lent: &mut [u8], done: usize) -> usize
-    requires { ⌜ (number < 1024) × (place + length (now s) ≤ 16777216) × (done ≤ 17179869184) ⌝ }
+// The records of a blanked text's functions, the first with the number `done`; answers the number behind the last. The array is for what is
+// noted of the text, and holds nothing of the text before.
+fn scan_text(
+    s: &[u8],
+    number: usize,
+    place: usize,
+    lent: &mut [u8],
+    done: usize,
+    noted: &mut [u32; 4098],
+) -> usize
+    requires { ⌜
+        (number < 1024)
+        × (place + length (now s) ≤ 16777216)
+        × (done ≤ 17179869184)
+        × (length (now noted) ≡ 4098)
+        ⌝ }
     ensures { λ r. ⌜
         (r ≡ done + length (functions (now (s .entry))))
         × (now (lent .exit) ≡ putRecords done (recordsFor number place (functions (now (s .entry)))) (now (lent .entry)))
+        × (length (now (noted .exit)) ≡ 4098)
         ⌝ }
 {
+    windows::clear(noted);
     let mut c = source::start(s);
     let mut n = done;
     loop {
-        let step = c.next(s);
+        let step = c.next(s, noted);
         match step {
             Step::Function(f, d) => {
                 put_numbered(lent, n, record_of(number, place, f));
@@ -110,13 +125,14 @@ fn scan_texts(tree: &[u8], work: &[u8], lent: &mut [u8]) -> usize
         ⌝ }
 {
     let n = tree::file_count(tree);
+    let mut noted = [0u32; 4098];
     let mut file = 0;
     let mut done = 0;
     while file < n {
         let text = tree::text_span(tree, file);
         let from = text.from;
         let to = text.to;
-        done = scan_text(&work[from..to], file, from, lent, done);
+        done = scan_text(&work[from..to], file, from, lent, done, &mut noted);
         file += 1;
     }
     done

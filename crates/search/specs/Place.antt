@@ -1,16 +1,14 @@
--- A place as the code tells it, and what searches that found nothing tell.
+-- A place as the code tells it, what a search meets on its way, and what is known of braces.
 use Prim.Native.Nat.{ℕ, _+_, _-_, _≤_, _<_}
 use mathlib.Core.Path.{_≡_}
 use mathlib.Core.Logic.{_⊎_, _≢_}
-use mathlib.Core.Bool.{true}
 use mathlib.Core.List.{List}
 use mathlib.Core.Option.{Option, none, some}
 use lib.ListN.{drop, getD, length}
-use Rattle.text_rules.specs.Classes.{angleClose, angleOpen, braceClose, braceOpen, roundClose, roundOpen, semicolon, squareClose, squareOpen}
+use Rattle.text_rules.specs.Classes.{angleClose, angleOpen, braceClose, braceOpen, semicolon, squareClose, squareOpen}
 use Rattle.source_rules.specs.Brackets.{partner}
-use Rattle.source_rules.specs.Finding.{bodyAt, flat}
+use Rattle.source_rules.specs.Finding.{bodyAt}
 use Rattle.blocks.specs.Blocks.{Lacks, countFrom}
-use Rattle.search.specs.declared.Bare.{Bare}
 use Rattle.search.specs.declared.Counts.{Counts}
 use Rattle.search.specs.declared.Halt.{Halt}
 use Rattle.search.specs.declared.Learnt.{Learnt}
@@ -22,7 +20,6 @@ use Rattle.search.specs.declared.Reached.{Reached}
 use Rattle.search.specs.declared.Reached.the-variants.{Brace, Ended, Further}
 use Rattle.search.specs.declared.Tally.{Tally}
 use Rattle.search.specs.declared.Unclosed.{Unclosed}
-use Rattle.search.specs.declared.Unflat.{Unflat}
 
 abbrev pub placeOf : Place → Option ℕ
 placeOf (At n) = some n
@@ -97,54 +94,7 @@ pub record Halts (s : List ℕ) (from to : ℕ) (n : Counts) (r : Halt) : Type 0
   pub same : bodyFrom s from n ≡ bodyFrom s (r .at) (r .counts)
   pub counted : Counted (r .counts) (r .at)
 
--- counts with which a search finds no body from the known place on
-abbrev pub Lost : Unflat → (angle opened closed : ℕ) → Type 0
-Lost u angle opened closed = (u .angles < angle) ⊎ ((u .squares < opened - closed) ⊎ (u .crossed < closed - opened))
-
--- what is known of searches for a body
-pub record KnowsUnflat (s : List ℕ) (u : Unflat) : Type 0 where
-  pub no-brace : Absent braceOpen s (u .last)
-  pub none-there : (angle opened closed : ℕ) → Lost u angle opened closed → bodyAt angle opened closed (u .at) (drop (u .at) s) ≡ none
-  pub inside : u .at ≤ length s
-  pub vain-there : u .vain ≡ true → bodyAt (u .angle) (u .opened) (u .closed) (u .at) (drop (u .at) s) ≡ none
-
--- counts at the known place with the depths of a search that found none there
-pub record Repeats (u : Unflat) (n : Counts) : Type 0 where
-  pub is-vain : u .vain ≡ true
-  pub same-angle : n .angle ≡ u .angle
-  pub same-square : n .opened + u .closed ≡ u .opened + n .closed
-
--- what is known after a search with these counts at the known place found none
-abbrev pub noted : Unflat → Counts → Unflat
-noted u n =
-    record {
-      last = u .last;
-      at = u .at;
-      angles = u .angles;
-      squares = u .squares;
-      crossed = u .crossed;
-      vain = true;
-      angle = n .angle;
-      opened = n .opened;
-      closed = n .closed;
-    }
-
--- the search finds no body from its place on, with the counts that it has there
-pub record Vain (s : List ℕ) (v : Bare) : Type 0 where
-  pub none-there : v .known ≡ true → bodyAt (v .angle) (v .opened) (v .closed) (v .at) (drop (v .at) s) ≡ none
-  pub angle-most : v .angle ≤ v .at
-  pub opened-most : v .opened ≤ v .at
-  pub closed-most : v .closed ≤ v .at
-
--- the search stands at a place at angle and square depth 0
-pub record Passed (v : Bare) (from : ℕ) : Type 0 where
-  pub is-known : v .known ≡ true
-  pub stands : v .at ≡ from
-  pub level : flat (v .angle) (v .opened) (v .closed) ≡ true
-
--- what was learnt of a text
+-- what was learnt of the braces of a text
 pub record Learned (s : List ℕ) (l : Learnt) : Type 0 where
-  pub vain : Vain s (l .bare)
-  pub rounds-known : Knows roundOpen roundClose s (l .rounds)
+  pub no-opening : Absent braceOpen s (l .last)
   pub braces-known : Knows braceOpen braceClose s (l .braces)
-  pub flats-known : KnowsUnflat s (l .flats)

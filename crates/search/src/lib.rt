@@ -1,5 +1,5 @@
 // Searches in a blanked text: a byte, a bracket's partner, the brace that opens a body, the ends of white space and of a word, the word `fn`,
-// and the mark of test code. What a search in vain told is handed on, so that it is not made again.
+// and the mark of test code. What is known of braces is handed on, so that a text of many that are never closed is not read to its end for each.
 ghost use mathlib.Core.Path.{_≡_};
 ghost use mathlib.Core.Logic.{_⊎_, _≢_};
 ghost use mathlib.Core.Bool.{true};
@@ -8,11 +8,11 @@ ghost use mathlib.Core.Option.{none};
 ghost use Prim.Native.Nat.{_+_, _-_, _≤_, _<_, min};
 ghost use lib.ListN.{length, getD, drop};
 ghost use Rattle.text_rules.specs.Bytes.{ascii};
-ghost use Rattle.text_rules.specs.Classes.{braceClose, braceOpen, isSpace, isWord, roundClose, roundOpen};
+ghost use Rattle.text_rules.specs.Classes.{braceClose, braceOpen, isSpace, isWord};
 ghost use Rattle.text_rules.specs.Search.{countAfter, find, run, startsWith};
 ghost use Rattle.source_rules.specs.Brackets.{partner};
-ghost use Rattle.source_rules.specs.Finding.{angleAfter, bodyAt, flat, isFn};
-ghost use Rattle.search.specs.Place.{Absent, Counted, Halts, Knows, KnowsUnflat, Learned, Lost, Meets, Passable, Passed, Reaches, Repeats, Tallies, Vain, bodyFrom, noted, placeOf};
+ghost use Rattle.source_rules.specs.Finding.{flat, isFn};
+ghost use Rattle.search.specs.Place.{Absent, Counted, Halts, Knows, Learned, Meets, Passable, Reaches, Tallies, placeOf};
 
 // A place in a text, if there is one.
 pub enum Place {
@@ -50,13 +50,20 @@ fn behind_last(s: &[u8], x: u8) -> usize
 }
 
 // What a search for a partner meets up to a place: the partner, or the brackets that are open there.
-enum Met {
+pub enum Met {
     Partner(usize),
     Depth(usize),
 }
 
 // The partner of a bracket, sought from one place up to another, with so many brackets open inside it.
-fn partner_before(s: &[u8], opening: u8, closing: u8, from: usize, to: usize, depth: usize) -> Met
+pub fn partner_before(
+    s: &[u8],
+    opening: u8,
+    closing: u8,
+    from: usize,
+    to: usize,
+    depth: usize,
+) -> Met
     requires { ⌜ (opening ≢ closing) × (from ≤ to) × (to ≤ length (now s)) × (depth ≤ from) ⌝ }
     ensures { λ r. ⌜ Meets (now (s .entry)) opening closing from to depth r ⌝ }
 {
@@ -230,23 +237,6 @@ fn is_flat(angle: usize, opened: usize, closed: usize) -> bool
     if angle == 0 { opened == closed } else { false }
 }
 
-// The angle depth behind a byte. A `>` lowers it only above 0: elsewhere it belongs to `->`.
-fn angle_after(b: u8, angle: usize) -> usize
-    requires { ⌜ angle < 18446744073709551615 ⌝ }
-    ensures { λ r. ⌜ (r ≡ angleAfter b angle) × (r ≤ angle + 1) ⌝ }
-{
-    if b == b'<' {
-        return angle + 1;
-    }
-    if b == b'>' {
-        if 0 < angle {
-            return angle - 1;
-        }
-        return 0;
-    }
-    angle
-}
-
 // How many bytes are `x`, behind the byte `b`.
 pub fn count_after(x: u8, b: u8, n: usize) -> usize
     requires { ⌜ n < 18446744073709551615 ⌝ }
@@ -256,14 +246,14 @@ pub fn count_after(x: u8, b: u8, n: usize) -> usize
 }
 
 // What a search for a body has counted: angle brackets that are open, and square ones that were opened and closed.
-struct Counts {
-    angle: usize,
-    opened: usize,
-    closed: usize,
+pub struct Counts {
+    pub angle: usize,
+    pub opened: usize,
+    pub closed: usize,
 }
 
 // What a search for a body meets up to a place: the brace, a `;` that ends it, or nothing, with the counts that it has there.
-enum Reached {
+pub enum Reached {
     Brace(usize),
     Ended,
     Further(Counts),
@@ -418,7 +408,7 @@ fn body_blocks(s: &[u8], from: usize, to: usize, n: Counts) -> Halt
 }
 
 // So many bytes further on, at most a place.
-fn ahead(from: usize, many: usize, to: usize) -> usize
+pub fn ahead(from: usize, many: usize, to: usize) -> usize
     requires { ⌜ from ≤ to ⌝ }
     ensures { λ r. ⌜ r ≡ min (from + many) to ⌝ }
 {
@@ -457,7 +447,7 @@ fn body_further(s: &[u8], from: usize, to: usize, n: Counts) -> Reached
 }
 
 // The same search. Most are short, and end before a block is looked at.
-fn body_before(s: &[u8], from: usize, to: usize, n: Counts) -> Reached
+pub fn body_before(s: &[u8], from: usize, to: usize, n: Counts) -> Reached
     requires { ⌜ (from ≤ to) × (to ≤ length (now s)) × Counted n from ⌝ }
     ensures { λ r. ⌜ Reaches (now (s .entry)) from to n r ⌝ }
 {
@@ -470,203 +460,9 @@ fn body_before(s: &[u8], from: usize, to: usize, n: Counts) -> Reached
     }
 }
 
-// What is known of searches for a body: no brace stands from `last` on, and one that has more angle brackets open at the place `at` than `angles`,
-// more square ones open than `squares`, or more square ones closed that were never opened than `crossed`, finds none. Where `vain` tells so, neither
-// does one that has the counts `angle`, `opened` and `closed` there.
-pub struct Unflat {
-    pub last: usize,
-    pub at: usize,
-    pub angles: usize,
-    pub squares: usize,
-    pub crossed: usize,
-    pub vain: bool,
-    pub angle: usize,
-    pub opened: usize,
-    pub closed: usize,
-}
-
-// Whether a search with these counts at the known place is known to find none.
-fn is_lost(u: Unflat, n: Counts) -> bool
-    ensures { λ r. ⌜ (r ≡ true → Lost u (n .angle) (n .opened) (n .closed)) ⌝ }
-{
-    if u.angles < n.angle {
-        return true;
-    }
-    if n.closed < n.opened {
-        return u.squares < n.opened - n.closed;
-    }
-    u.crossed < n.closed - n.opened
-}
-
-// Whether a search with these counts at the known place is at the same depths there as one that found none. Of square brackets only the
-// difference counts.
-fn is_vain(u: Unflat, n: Counts) -> bool
-    ensures { λ r. ⌜ (r ≡ true → Repeats u n) ⌝ }
-{
-    if !u.vain {
-        return false;
-    }
-    if n.angle != u.angle {
-        return false;
-    }
-    if less(n.opened, n.closed) != less(u.opened, u.closed) {
-        return false;
-    }
-    less(n.closed, n.opened) == less(u.closed, u.opened)
-}
-
-// What is known after a search with these counts at the known place found none.
-fn noted(u: Unflat, n: Counts) -> Unflat
-    ensures { λ r. ⌜ r ≡ noted u n ⌝ }
-{
-    Unflat {
-        last: u.last,
-        at: u.at,
-        angles: u.angles,
-        squares: u.squares,
-        crossed: u.crossed,
-        vain: true,
-        angle: n.angle,
-        opened: n.opened,
-        closed: n.closed,
-    }
-}
-
-// What is known after a search from a place on found no body. The text is read to its end again only where the place that is known is too far on,
-// or behind.
-fn unflat_further(s: &[u8], from: usize, u: Unflat) -> Unflat
-    requires { ⌜ (from ≤ length (now s)) × KnowsUnflat (now s) u ⌝ }
-    ensures { λ r. ⌜ KnowsUnflat (now (s .entry)) r ⌝ }
-{
-    let at = further(s.len(), from);
-    if from <= u.at {
-        if u.at <= at {
-            return u;
-        }
-    }
-    Unflat {
-        last: u.last,
-        at,
-        angles: closings(s, b'<', b'>', at),
-        squares: closings(s, b'[', b']', at),
-        crossed: closings(s, b']', b'[', at),
-        vain: false,
-        angle: 0,
-        opened: 0,
-        closed: 0,
-    }
-}
-
-// The brace that opens a body, and what is known after it was sought.
-struct Opened {
-    place: Place,
-    flats: Unflat,
-}
-
-// The brace that opens a body, sought from a place on to the end of the text, with the counts that the search has there.
-fn body_on(s: &[u8], from: usize, n: Counts, u: Unflat) -> Opened
-    requires { ⌜ (from ≤ length (now s)) × Counted n from × KnowsUnflat (now s) u ⌝ }
-    ensures { λ r. ⌜ (placeOf (r .place) ≡ bodyFrom (now (s .entry)) from n) × KnowsUnflat (now (s .entry)) (r .flats) ⌝ }
-{
-    let met = body_before(s, from, s.len(), n);
-    match met {
-        Reached::Brace(p) => Opened {
-            place: Place::At(p),
-            flats: u,
-        },
-        Reached::Ended => Opened {
-            place: Place::Nowhere,
-            flats: u,
-        },
-        Reached::Further(m) => Opened {
-            place: Place::Nowhere,
-            flats: unflat_further(s, from, u),
-        },
-    }
-}
-
-// The brace that opens a body, sought on from the known place, with the counts that a search from before it has there.
-fn body_there(s: &[u8], from: usize, n: Counts, u: Unflat) -> Opened
-    requires { ⌜ (from ≤ length (now s)) × Counted n (u .at) × KnowsUnflat (now s) u ⌝ }
-    ensures { λ r. ⌜ (placeOf (r .place) ≡ bodyFrom (now (s .entry)) (u .at) n) × KnowsUnflat (now (s .entry)) (r .flats) ⌝ }
-{
-    if is_lost(u, n) {
-        return Opened {
-            place: Place::Nowhere,
-            flats: unflat_further(s, from, u),
-        };
-    }
-    if is_vain(u, n) {
-        return Opened {
-            place: Place::Nowhere,
-            flats: unflat_further(s, from, u),
-        };
-    }
-    let met = body_before(s, u.at, s.len(), n);
-    match met {
-        Reached::Brace(p) => Opened {
-            place: Place::At(p),
-            flats: u,
-        },
-        Reached::Ended => Opened {
-            place: Place::Nowhere,
-            flats: noted(u, n),
-        },
-        Reached::Further(m) => Opened {
-            place: Place::Nowhere,
-            flats: unflat_further(s, from, noted(u, n)),
-        },
-    }
-}
-
-// The brace that opens a body. A text of many brackets that are never closed is not read to its end for each signature, nor is one in which no
-// brace stands at depth 0.
-fn body_open(s: &[u8], from: usize, u: Unflat) -> Opened
-    requires { ⌜ (from ≤ length (now s)) × KnowsUnflat (now s) u ⌝ }
-    ensures { λ r. ⌜ (placeOf (r .place) ≡ bodyAt 0 0 0 from (drop from (now (s .entry)))) × KnowsUnflat (now (s .entry)) (r .flats) ⌝ }
-{
-    if u.last <= from {
-        return Opened {
-            place: Place::Nowhere,
-            flats: u,
-        };
-    }
-    let nothing = Counts {
-        angle: 0,
-        opened: 0,
-        closed: 0,
-    };
-    if u.at < from {
-        return body_on(s, from, nothing, u);
-    }
-    let near = body_before(s, from, u.at, nothing);
-    match near {
-        Reached::Brace(p) => Opened {
-            place: Place::At(p),
-            flats: u,
-        },
-        Reached::Ended => Opened {
-            place: Place::Nowhere,
-            flats: u,
-        },
-        Reached::Further(m) => body_there(s, from, m, u),
-    }
-}
-
-// A search for a body that found none, at a place that it passed, with the counts that it had there. Until one is known, nothing is.
-pub struct Bare {
-    pub known: bool,
-    pub at: usize,
-    pub angle: usize,
-    pub opened: usize,
-    pub closed: usize,
-}
-
-// What was learnt from searches that found nothing: of bodies, and of brackets that are never closed.
+// What was learnt of the braces of a text: no `{` stands from `last` on, and what is known of those that are never closed.
 pub struct Learnt {
-    pub bare: Bare,
-    pub flats: Unflat,
-    pub rounds: Unclosed,
+    pub last: usize,
     pub braces: Unclosed,
 }
 
@@ -675,121 +471,8 @@ pub fn nothing_learnt(s: &[u8]) -> Learnt
     ensures { λ r. ⌜ Learned (now (s .entry)) r ⌝ }
 {
     Learnt {
-        bare: Bare {
-            known: false,
-            at: 0,
-            angle: 0,
-            opened: 0,
-            closed: 0,
-        },
-        flats: Unflat {
-            last: behind_last(s, b'{'),
-            at: s.len(),
-            angles: 0,
-            squares: 0,
-            crossed: 0,
-            vain: false,
-            angle: 0,
-            opened: 0,
-            closed: 0,
-        },
-        rounds: known_first(s, b'(', b')'),
+        last: behind_last(s, b'{'),
         braces: known_first(s, b'{', b'}'),
-    }
-}
-
-// The same search further on, unless it ended before.
-fn taken_on(s: &[u8], v: Bare, to: usize) -> Bare
-    requires { ⌜ (to ≤ length (now s)) × Vain (now s) v ⌝ }
-    ensures { λ r. ⌜ Vain (now (s .entry)) r ⌝ }
-{
-    if !v.known {
-        return v;
-    }
-    let mut angle = v.angle;
-    let mut opened = v.opened;
-    let mut closed = v.closed;
-    let mut at = v.at;
-    while at < to {
-        let b = s[at];
-        if is_flat(angle, opened, closed) {
-            if b == b';' {
-                return Bare {
-                    known: false,
-                    at,
-                    angle,
-                    opened,
-                    closed,
-                };
-            }
-        }
-        angle = angle_after(b, angle);
-        opened = count_after(b'[', b, opened);
-        closed = count_after(b']', b, closed);
-        at += 1;
-    }
-    Bare {
-        known: true,
-        at,
-        angle,
-        opened,
-        closed,
-    }
-}
-
-// Whether the search stands at a place at angle and square depth 0, so that one that begins there finds none either.
-fn is_bare(v: Bare, from: usize) -> bool
-    ensures { λ r. ⌜ (r ≡ true → Passed v from) ⌝ }
-{
-    if !v.known {
-        return false;
-    }
-    if v.at != from {
-        return false;
-    }
-    is_flat(v.angle, v.opened, v.closed)
-}
-
-// The brace that opens a body, the last search that found none, and what is known of searches.
-struct Sought {
-    place: Place,
-    bare: Bare,
-    flats: Unflat,
-}
-
-// The brace that opens a body. Signatures without a body that follow each other are passed by one search.
-fn body_behind(s: &[u8], from: usize, v: Bare, u: Unflat) -> Sought
-    requires { ⌜ (from ≤ length (now s)) × Vain (now s) v × KnowsUnflat (now s) u ⌝ }
-    ensures { λ r. ⌜
-        (placeOf (r .place) ≡ bodyAt 0 0 0 from (drop from (now (s .entry))))
-        × Vain (now (s .entry)) (r .bare)
-        × KnowsUnflat (now (s .entry)) (r .flats)
-        ⌝ }
-{
-    let bare = taken_on(s, v, from);
-    if is_bare(bare, from) {
-        return Sought {
-            place: Place::Nowhere,
-            bare,
-            flats: u,
-        };
-    }
-    let found = body_open(s, from, u);
-    let place = found.place;
-    let flats = found.flats;
-    match place {
-        Place::At(p) => Sought { place, bare, flats },
-        Place::Nowhere => Sought {
-            place,
-            bare: Bare {
-                known: true,
-                at: from,
-                angle: 0,
-                opened: 0,
-                closed: 0,
-            },
-            flats,
-        },
     }
 }
 
@@ -797,32 +480,6 @@ fn body_behind(s: &[u8], from: usize, v: Bare, u: Unflat) -> Sought
 pub struct Looked {
     pub place: Place,
     pub learnt: Learnt,
-}
-
-// The partner of a `(` that stands before `from`.
-pub fn list_end(s: &[u8], from: usize, v: Learnt) -> Looked
-    requires { ⌜ (from ≤ length (now s)) × Learned (now s) v ⌝ }
-    ensures { λ r. ⌜
-        (placeOf (r .place) ≡ partner roundOpen roundClose 0 from (drop from (now (s .entry))))
-        × Learned (now (s .entry)) (r .learnt)
-        ⌝ }
-{
-    let bare = v.bare;
-    let flats = v.flats;
-    let known = v.rounds;
-    let braces = v.braces;
-    let m = matching_delim(s, b'(', b')', from, known);
-    let place = m.place;
-    let rounds = m.unclosed;
-    Looked {
-        place,
-        learnt: Learnt {
-            bare,
-            flats,
-            rounds,
-            braces,
-        },
-    }
 }
 
 // The partner of a `{` that stands before `from`.
@@ -833,45 +490,14 @@ pub fn block_end(s: &[u8], from: usize, v: Learnt) -> Looked
         × Learned (now (s .entry)) (r .learnt)
         ⌝ }
 {
-    let bare = v.bare;
-    let flats = v.flats;
-    let rounds = v.rounds;
+    let last = v.last;
     let known = v.braces;
     let m = matching_delim(s, b'{', b'}', from, known);
     let place = m.place;
     let braces = m.unclosed;
     Looked {
         place,
-        learnt: Learnt {
-            bare,
-            flats,
-            rounds,
-            braces,
-        },
-    }
-}
-
-// The brace that opens a body, behind a list that ends before `from`.
-pub fn body_after(s: &[u8], from: usize, v: Learnt) -> Looked
-    requires { ⌜ (from ≤ length (now s)) × Learned (now s) v ⌝ }
-    ensures { λ r. ⌜ (placeOf (r .place) ≡ bodyAt 0 0 0 from (drop from (now (s .entry)))) × Learned (now (s .entry)) (r .learnt) ⌝ }
-{
-    let known = v.bare;
-    let unflat = v.flats;
-    let rounds = v.rounds;
-    let braces = v.braces;
-    let found = body_behind(s, from, known, unflat);
-    let place = found.place;
-    let bare = found.bare;
-    let flats = found.flats;
-    Looked {
-        place,
-        learnt: Learnt {
-            bare,
-            flats,
-            rounds,
-            braces,
-        },
+        learnt: Learnt { last, braces },
     }
 }
 

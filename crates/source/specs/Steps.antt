@@ -329,7 +329,7 @@ then-none none k h = refl
 then-none (some m) k h = h m refl
 
 -- behind the last { or the last } no name is a function's
-pub behind-braces : (s : List ℕ) (v : Learnt) → Learned s v → (to : ℕ) → (v .flats .last ≤ to) ⊎ (v .braces .last ≤ to) → (from x : ℕ) → to ≤ x → functionFrom from x s ≡ none
+pub behind-braces : (s : List ℕ) (v : Learnt) → Learned s v → (to : ℕ) → (v .last ≤ to) ⊎ (v .braces .last ≤ to) → (from x : ℕ) → to ≤ x → functionFrom from x s ≡ none
 unfolding functionFrom
 behind-braces s v l to h from x k =
     then-none (find roundOpen x (drop x s)) _ λ opened e₁.
@@ -339,6 +339,6 @@ behind-braces s v l to h from x k =
     let i₂ = partner-place s (suc opened) closed roundOpen roundClose e₂ in
     let i₃ = body-place s (suc closed) body e₃ in
     elim h [
-      | inl g ↦ absurd (none-some body (sym e₃ ∙ no-body s (v .flats .last) (suc closed) 0 0 0 (l .flats-known .no-brace) (omega arith)))
+      | inl g ↦ absurd (none-some body (sym e₃ ∙ no-body s (v .last) (suc closed) 0 0 0 (l .no-opening) (omega arith)))
       | inr g ↦ rw (no-partner braceOpen braceClose s (v .braces .last) (suc body) 0 (l .braces-known .no-closing) (omega arith))
     ]

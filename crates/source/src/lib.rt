@@ -5,6 +5,7 @@ use measures::Body;
 use measures::BodyAt;
 use search::Learnt;
 use search::Place;
+use signatures::Sought;
 ghost use mathlib.Core.Path.{_≡_};
 ghost use mathlib.Core.Logic.{_⊎_};
 ghost use mathlib.Core.Bool.{true};
@@ -13,6 +14,8 @@ ghost use lib.ListN.{length, getD};
 ghost use Rattle.text_rules.specs.Classes.{braceOpen};
 ghost use Rattle.blocks.specs.Blocks.{Every};
 ghost use Rattle.search.specs.Place.{Learned};
+ghost use Rattle.windows.specs.Window.{Noted};
+ghost use Rattle.signatures.specs.Signatures.{Told};
 ghost use Rattle.source_rules.specs.TextScan.{functions};
 ghost use Rattle.source.specs.Cursors.{Any, Barren, Blocked, Closed, FoundAt, Measures, Neither, Passed, Quieter, Ready, Signed, SpanAt, Stepped, Turned, remaining};
 
@@ -25,7 +28,7 @@ pub struct Cursor {
     pub span_end: usize,
     pub resume: usize,
     // What was sought in vain is not sought again: no test span begins from `at` up to the first place, no name that ends from the second up to
-    // the third is a function's; and what searches for bodies and for brackets told.
+    // the third is a function's; and what was learnt of the braces.
     pub spanless: usize,
     pub barren_from: usize,
     pub barren_to: usize,
@@ -152,10 +155,9 @@ fn block_at(s: &[u8], body: usize, v: Learnt) -> Block
 
 // Whether no `{` stands from a place on, or no `}`.
 fn is_behind_braces(v: Learnt, to: usize) -> bool
-    ensures { λ r. ⌜ (r ≡ true → (v .flats .last ≤ to) ⊎ (v .braces .last ≤ to)) ⌝ }
+    ensures { λ r. ⌜ (r ≡ true → (v .last ≤ to) ⊎ (v .braces .last ≤ to)) ⌝ }
 {
-    let flats = v.flats;
-    if flats.last <= to {
+    if v.last <= to {
         return true;
     }
     let braces = v.braces;
@@ -163,27 +165,18 @@ fn is_behind_braces(v: Learnt, to: usize) -> bool
 }
 
 // The brackets after a name that ends at `to`, each of them sought.
-fn signature_sought(s: &[u8], to: usize, v: Learnt) -> Signature
-    requires { ⌜ Learned (now s) v ⌝ }
-    ensures { λ r. ⌜ Signed (now (s .entry)) to r ⌝ }
+fn signature_sought(s: &[u8], to: usize, v: Learnt, noted: &mut [u32; 4098]) -> Signature
+    requires { ⌜ Learned (now s) v × Noted (Told (now s)) (now noted) ⌝ }
+    ensures { λ r. ⌜ Signed (now (s .entry)) to r × Noted (Told (now (s .entry))) (now (noted .exit)) ⌝ }
 {
     let Place::At(opened) = search::find(s, b'(', to) else {
         return Signature::Broken(s.len(), v);
     };
     let inside = opened + 1;
-    let list = search::list_end(s, inside, v);
-    let first = list.learnt;
-    let close = list.place;
-    let Place::At(closed) = close else {
-        return Signature::Broken(inside, first);
+    let Sought::Both(closed, body) = signatures::brackets_after(s, inside, noted) else {
+        return Signature::Broken(inside, v);
     };
-    let sought = search::body_after(s, closed + 1, first);
-    let second = sought.learnt;
-    let brace = sought.place;
-    let Place::At(body) = brace else {
-        return Signature::Broken(inside, second);
-    };
-    let block = block_at(s, body, second);
+    let block = block_at(s, body, v);
     match block {
         Block::Open(w) => Signature::Broken(inside, w),
         Block::Closed(b, w) => Signature::Whole(
@@ -202,14 +195,14 @@ fn signature_sought(s: &[u8], to: usize, v: Learnt) -> Signature
 }
 
 // The brackets after a name that ends at `to`. Behind the last `{` or the last `}` no name is a function's, and nothing is sought.
-fn signature_at(s: &[u8], to: usize, v: Learnt) -> Signature
-    requires { ⌜ Learned (now s) v ⌝ }
-    ensures { λ r. ⌜ Signed (now (s .entry)) to r ⌝ }
+fn signature_at(s: &[u8], to: usize, v: Learnt, noted: &mut [u32; 4098]) -> Signature
+    requires { ⌜ Learned (now s) v × Noted (Told (now s)) (now noted) ⌝ }
+    ensures { λ r. ⌜ Signed (now (s .entry)) to r × Noted (Told (now (s .entry))) (now (noted .exit)) ⌝ }
 {
     if is_behind_braces(v, to) {
         return Signature::Broken(s.len(), v);
     }
-    signature_sought(s, to, v)
+    signature_sought(s, to, v, noted)
 }
 
 // The function on a line whose name stands from one place up to another.
@@ -358,9 +351,14 @@ pub fn start(s: &[u8]) -> Cursor
 
 impl Cursor {
     // The function whose `fn` stands at the next byte.
-    fn measure(self, s: &[u8]) -> Measure
-        requires { ⌜ (self .at + 2 ≤ length (now s)) × Barren (now s) (self .«barren_from») (self .«barren_to») × Learned (now s) (self .learnt) ⌝ }
-        ensures { λ r. ⌜ Measures (now (s .entry)) self r ⌝ }
+    fn measure(self, s: &[u8], noted: &mut [u32; 4098]) -> Measure
+        requires { ⌜
+            (self .at + 2 ≤ length (now s))
+            × Barren (now s) (self .«barren_from») (self .«barren_to»)
+            × Learned (now s) (self .learnt)
+            × Noted (Told (now s)) (now noted)
+            ⌝ }
+        ensures { λ r. ⌜ Measures (now (s .entry)) self r × Noted (Told (now (s .entry))) (now (noted .exit)) ⌝ }
     {
         let from = search::space_end(s, self.at + 2);
         let to = search::word_end(s, from);
@@ -374,7 +372,7 @@ impl Cursor {
                 return Measure::Nothing(self.barren_from, self.barren_to, v);
             }
         }
-        let g = signature_at(s, to, v);
+        let g = signature_at(s, to, v, noted);
         match g {
             Signature::Broken(n, w) => Measure::Nothing(to, n, w),
             Signature::Whole(b, w) => {
@@ -430,9 +428,9 @@ impl Cursor {
     }
 
     // Past the next byte.
-    fn turn_at(self, s: &[u8]) -> Turn
-        requires { ⌜ (self .at < length (now s)) × Ready (now s) self ⌝ }
-        ensures { λ r. ⌜ Turned (now (s .entry)) self r ⌝ }
+    fn turn_at(self, s: &[u8], noted: &mut [u32; 4098]) -> Turn
+        requires { ⌜ (self .at < length (now s)) × Ready (now s) self × Noted (Told (now s)) (now noted) ⌝ }
+        ensures { λ r. ⌜ Turned (now (s .entry)) self r × Noted (Told (now (s .entry))) (now (noted .exit)) ⌝ }
     {
         let at = self.at;
         let b = s[at];
@@ -456,7 +454,7 @@ impl Cursor {
         if !search::word_at(s, at) {
             return Turn::Past(c);
         }
-        let m = self.measure(s);
+        let m = self.measure(s, noted);
         match m {
             Measure::Nothing(from, to, v) => {
                 c.barren_from = from;
@@ -472,10 +470,10 @@ impl Cursor {
         }
     }
 
-    // The next function of the text.
-    pub fn next(self, s: &[u8]) -> Step
-        requires { ⌜ Ready (now s) self ⌝ }
-        ensures { λ r. ⌜ Stepped (now (s .entry)) self r ⌝ }
+    // The next function of the text. The array holds what is noted of the brackets that follow its names.
+    pub fn next(self, s: &[u8], noted: &mut [u32; 4098]) -> Step
+        requires { ⌜ Ready (now s) self × Noted (Told (now s)) (now noted) ⌝ }
+        ensures { λ r. ⌜ Stepped (now (s .entry)) self r × Noted (Told (now (s .entry))) (now (noted .exit)) ⌝ }
     {
         let mut c = self;
         while c.at < s.len() {
@@ -485,7 +483,7 @@ impl Cursor {
             if c.at == s.len() {
                 return Step::End;
             }
-            let t = c.turn_at(s);
+            let t = c.turn_at(s, noted);
             match t {
                 Turn::Yield(f, d) => {
                     return Step::Function(f, d);

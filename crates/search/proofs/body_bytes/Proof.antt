@@ -1,6 +1,6 @@
 -- `search::body_bytes` meets its contract: at each turn the brace sought from `at` on, at the depths reached, is the one sought from the start
 -- on. Each byte has its law. The three counts are at most the place, so that they can be counted.
-use Prim.Native.Nat.{ℕ, _≤_, _-_, _+_}
+use Prim.Native.Nat.{_≤_, _-_, _+_}
 use mathlib.Core.Path.{_≡_, refl, subst, sym, _∙_}
 use native.Mathlib.Omega.{arith}
 use borrow.Author.Needs.{needs}

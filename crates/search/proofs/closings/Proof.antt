@@ -1,7 +1,7 @@
 -- `search::closings` meets its contract: a bracket with at least as many open inside it as were closed so far is sought on with the others and with
 -- those that were opened since.
 use Prim.Native.Nat.{ℕ, _≤_, _-_, _+_}
-use mathlib.Core.Path.{_≡_, refl, ap, sym, _∙_}
+use mathlib.Core.Path.{_≡_, ap, _∙_}
 use native.Mathlib.Omega.{arith}
 use lib.ListN.{length, drop}
 use Rattle.source_rules.specs.Brackets.{partner}

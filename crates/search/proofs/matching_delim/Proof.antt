@@ -1,7 +1,6 @@
 -- `search::matching_delim` meets its contract: behind the last closing bracket there is no partner, and at the place that is known none with as
 -- many open inside it.
 use mathlib.Core.Path.{sym, subst, _∙_}
-use native.Mathlib.Omega.{arith}
 use borrow.Author.Needs.{needs}
 use lib.ListN.{drop}
 use Rattle.search.specs.EndLaws.{no-partner, partner-more}

@@ -11,8 +11,8 @@ unfolding Barren
 returns c =
     let b = c .before .before .before in
     let a = b .args in
-    let gone = behind-braces (a .s .now) (a .v) (b .pre) (a .to) (c .before .is-behind-braces .ensures (c .if1 .taken)) in
-    (record { none-here = λ from. gone from (a .to) (omega arith); no-function = λ from x h k. gone from x h }, b .pre)
+    let gone = behind-braces (a .s .now) (a .v) (b .pre .0) (a .to) (c .before .is-behind-braces .ensures (c .if1 .taken)) in
+    ((record { none-here = λ from. gone from (a .to) (omega arith); no-function = λ from x h k. gone from x h }, b .pre .0), b .pre .1)
 
 pub signature-at-spec : {M : Type 1} → statement M
 signature-at-spec = tie.close (tie.spec (λ c κs. search needs) returns (λ c κs. search needs) (λ c. search needs))

@@ -1,6 +1,6 @@
 -- `source::signature_sought` meets its contract: each search tells whether its bracket is there, and the rules have one law for each that may be
 -- missing and one for all four.
-use Prim.Native.Nat.{ℕ, _+_, _-_, _≤_}
+use Prim.Native.Nat.{ℕ, _+_, _-_, _≤_, _<_}
 use mathlib.Core.Path.{_≡_, ap, subst, sym, _∙_}
 use mathlib.Core.List.{List}
 use mathlib.Core.Option.{none, some}
@@ -10,11 +10,12 @@ use lib.ListN.{drop, getD}
 use lib.Seq.{getD-drop}
 use Rattle.text_rules.specs.Classes.{braceClose, braceOpen, roundClose, roundOpen}
 use Rattle.text_rules.specs.Search.{find}
-use Rattle.source_rules.specs.Brackets.{partner}
-use Rattle.source_rules.specs.Finding.{bodyAt}
+use Rattle.source_rules.specs.Finding.{bodyAt, functionFrom}
 use Rattle.source_rules.specs.FindingLaws.{body-brace}
 use Rattle.source_rules.specs.PlaceLaws.{body-place, find-place, no-body, no-list, open-body, open-list, partner-place, whole}
 use Rattle.search.specs.Place.{placeOf}
+use Rattle.signatures.specs.Signatures.{Begins, NoBody, no-brace, no-end}
+use Rattle.signatures.specs.declared.Sought.{Sought}
 use Rattle.source.specs.Cursors.{Barren, Blocked}
 use Rattle.source.specs.declared.Block.{Block}
 use Rattle.source.proofs.signature_sought.Statement.{statement}
@@ -26,130 +27,129 @@ brace-there s at body h e =
     let k : at + (body - at) ≡ body = omega arith in
     ap (λ i. getD s i 0) (sym k) ∙ sym (getD-drop at s (body - at) 0) ∙ body-brace 0 0 0 at (drop at s) (body - at) (e ∙ ap some (sym k))
 
+-- where not both the list's end and the body are there, no name before the bracket is a function's
+none-before : (s : List ℕ) (to opened : ℕ) → find roundOpen to (drop to s) ≡ some opened → NoBody s (opened + 1) → (from x : ℕ) → to ≤ x → x < opened + 1
+    → functionFrom from x s ≡ none
+none-before s to opened e (no-end h) = open-list s to opened e h
+none-before s to opened e (no-brace closed h k) = no-body s to opened e closed h k
+
 returns : tie.Need-returns
 unfolding Barren
 returns c =
-    let b = c .before .before .before .before in
+    let f = c .before .before in
+    let b = f .before .before in
     let a = b .args in
-    let e : find roundOpen (a .to) (drop (a .to) (a .s .now)) ≡ none = sym (c .before .before .find .ensures) ∙ ap placeOf (c .enum-told .given .1) in
-    (record { none-here = λ from. no-list (a .s .now) (a .to) e from (a .to) (omega arith); no-function = λ from x h k. no-list (a .s .now) (a .to) e from x h }, b .pre)
+    let e : find roundOpen (a .to) (drop (a .to) (a .s .now)) ≡ none = sym (f .find .ensures) ∙ ap placeOf (c .enum-told .given .1) in
+    ((record { none-here = λ from. no-list (a .s .now) (a .to) e from (a .to) (omega arith); no-function = λ from x h k. no-list (a .s .now) (a .to) e from x h }, b .pre .0), b .pre .1)
 
 add-inside : tie.Need-add-inside
 add-inside c =
-    let b = c .before .before .before .before .before in
+    let o = c .before in
+    let f = o .before .before in
+    let b = f .before .before in
     let a = b .args in
-    let opened = c .before .opened .given .0 .0 in
-    let e₁ : find roundOpen (a .to) (drop (a .to) (a .s .now)) ≡ some opened = sym (c .before .before .before .find .ensures) ∙ ap placeOf (c .before .opened .given .1) in
+    let opened = o .opened .given .0 .0 in
+    let e₁ : find roundOpen (a .to) (drop (a .to) (a .s .now)) ≡ some opened = sym (f .find .ensures) ∙ ap placeOf (o .opened .given .1) in
     omega (arith, find-place (a .s .now) (a .to) opened roundOpen e₁)
 
-list-end-requires : tie.Need-list-end-requires
-list-end-requires c κs =
-    let b = c .before .before .before .before .before in
+brackets-after-requires : tie.Need-brackets-after-requires
+brackets-after-requires c κs =
+    let o = c .before .before in
+    let f = o .before .before in
+    let b = f .before .before in
     let a = b .args in
-    let opened = c .before .opened .given .0 .0 in
-    let e₁ : find roundOpen (a .to) (drop (a .to) (a .s .now)) ≡ some opened = sym (c .before .before .before .find .ensures) ∙ ap placeOf (c .before .opened .given .1) in
-    (omega (arith, find-place (a .s .now) (a .to) opened roundOpen e₁), b .pre)
+    let opened = o .opened .given .0 .0 in
+    let e₁ : find roundOpen (a .to) (drop (a .to) (a .s .now)) ≡ some opened = sym (f .find .ensures) ∙ ap placeOf (o .opened .given .1) in
+    (omega (arith, find-place (a .s .now) (a .to) opened roundOpen e₁), b .pre .1)
 
 returns-2 : tie.Need-returns-2
 unfolding Barren
 returns-2 c =
-    let b = c .before .before .before .before .before .before .before .before .before in
+    let l = c .before .before in
+    let o = l .before .before .before in
+    let f = o .before .before in
+    let b = f .before .before in
     let a = b .args in
-    let opened = c .before .before .before .before .before .opened .given .0 .0 in
-    let e₁ : find roundOpen (a .to) (drop (a .to) (a .s .now)) ≡ some opened = sym (c .before .before .before .before .before .before .before .find .ensures) ∙ ap placeOf (c .before .before .before .before .before .opened .given .1) in
-    let e : partner roundOpen roundClose 0 (opened + 1) (drop (opened + 1) (a .s .now)) ≡ none = sym (c .before .before .before .list-end .ensures .0) ∙ ap placeOf (c .enum-told2 .given .1) in
-    let gone = open-list (a .s .now) (a .to) opened e₁ e in
-    (record { none-here = λ from. gone from (a .to) (omega arith) (omega (arith, find-place (a .s .now) (a .to) opened roundOpen e₁)); no-function = gone }, c .before .before .before .list-end .ensures .1)
+    let opened = o .opened .given .0 .0 in
+    let e₁ : find roundOpen (a .to) (drop (a .to) (a .s .now)) ≡ some opened = sym (f .find .ensures) ∙ ap placeOf (o .opened .given .1) in
+    let broken : NoBody (a .s .now) (opened + 1) = subst (Begins (a .s .now) (opened + 1)) (c .enum-told2 .given .1) (l .brackets-after .ensures .0) in
+    let gone = none-before (a .s .now) (a .to) opened e₁ broken in (
+      (record { none-here = λ from. gone from (a .to) (omega arith) (omega (arith, find-place (a .s .now) (a .to) opened roundOpen e₁)); no-function = gone }, b .pre .0),
+      l .brackets-after .ensures .1,
+    )
 
-add-body-after : tie.Need-add-body-after
-add-body-after c =
-    let b = c .before .before .before .before .before .before .before .before .before .before in
+block-at-requires : tie.Need-block-at-requires
+block-at-requires c κs =
+    let x = c .before in
+    let l = x .before .before in
+    let o = l .before .before .before in
+    let f = o .before .before in
+    let b = f .before .before in
     let a = b .args in
-    let opened = c .before .before .before .before .before .before .opened .given .0 .0 in
-    let e₁ : find roundOpen (a .to) (drop (a .to) (a .s .now)) ≡ some opened = sym (c .before .before .before .before .before .before .before .before .find .ensures) ∙ ap placeOf (c .before .before .before .before .before .before .opened .given .1) in
-    let closed = c .before .close .given .0 .0 in
-    let e₂ : partner roundOpen roundClose 0 (opened + 1) (drop (opened + 1) (a .s .now)) ≡ some closed = sym (c .before .before .before .before .list-end .ensures .0) ∙ ap placeOf (c .before .close .given .1) in
-    omega (arith, partner-place (a .s .now) (opened + 1) closed roundOpen roundClose e₂)
-
-body-after-requires : tie.Need-body-after-requires
-body-after-requires c κs =
-    let b = c .before .before .before .before .before .before .before .before .before .before in
-    let a = b .args in
-    let opened = c .before .before .before .before .before .before .opened .given .0 .0 in
-    let e₁ : find roundOpen (a .to) (drop (a .to) (a .s .now)) ≡ some opened = sym (c .before .before .before .before .before .before .before .before .find .ensures) ∙ ap placeOf (c .before .before .before .before .before .before .opened .given .1) in
-    let closed = c .before .close .given .0 .0 in
-    let e₂ : partner roundOpen roundClose 0 (opened + 1) (drop (opened + 1) (a .s .now)) ≡ some closed = sym (c .before .before .before .before .list-end .ensures .0) ∙ ap placeOf (c .before .close .given .1) in
-    (omega (arith, partner-place (a .s .now) (opened + 1) closed roundOpen roundClose e₂), c .before .before .before .before .list-end .ensures .1)
+    let opened = o .opened .given .0 .0 in
+    let e₁ : find roundOpen (a .to) (drop (a .to) (a .s .now)) ≡ some opened = sym (f .find .ensures) ∙ ap placeOf (o .opened .given .1) in
+    let closed = x .closed .given .0 .0 in
+    let body = x .closed .given .0 .1 .0 in
+    let both : Begins (a .s .now) (opened + 1) (Sought.Both closed body) = subst (Begins (a .s .now) (opened + 1)) (x .closed .given .1) (l .brackets-after .ensures .0) in
+    let i = body-place (a .s .now) (closed + 1) body (both .1) in
+    (i .1, brace-there (a .s .now) (closed + 1) body (i .0) (both .1), b .pre .0)
 
 returns-3 : tie.Need-returns-3
 unfolding Barren
 returns-3 c =
-    let b = c .before .before .before .before .before .before .before .before .before .before .before .before .before .before in
+    let k = c .before .before .before in
+    let x = k .before .before in
+    let l = x .before .before in
+    let o = l .before .before .before in
+    let f = o .before .before in
+    let b = f .before .before in
     let a = b .args in
-    let opened = c .before .before .before .before .before .before .before .before .before .before .opened .given .0 .0 in
-    let e₁ : find roundOpen (a .to) (drop (a .to) (a .s .now)) ≡ some opened = sym (c .before .before .before .before .before .before .before .before .before .before .before .before .find .ensures) ∙ ap placeOf (c .before .before .before .before .before .before .before .before .before .before .opened .given .1) in
-    let closed = c .before .before .before .before .before .close .given .0 .0 in
-    let e₂ : partner roundOpen roundClose 0 (opened + 1) (drop (opened + 1) (a .s .now)) ≡ some closed = sym (c .before .before .before .before .before .before .before .before .list-end .ensures .0) ∙ ap placeOf (c .before .before .before .before .before .close .given .1) in
-    let e : bodyAt 0 0 0 (closed + 1) (drop (closed + 1) (a .s .now)) ≡ none = sym (c .before .before .before .body-after .ensures .0) ∙ ap placeOf (c .enum-told3 .given .1) in
-    let gone = no-body (a .s .now) (a .to) opened e₁ closed e₂ e in
-    (record { none-here = λ from. gone from (a .to) (omega arith) (omega (arith, find-place (a .s .now) (a .to) opened roundOpen e₁)); no-function = gone }, c .before .before .before .body-after .ensures .1)
-
-block-at-requires : tie.Need-block-at-requires
-block-at-requires c κs =
-    let b = c .before .before .before .before .before .before .before .before .before .before .before .before .before .before .before in
-    let a = b .args in
-    let opened = c .before .before .before .before .before .before .before .before .before .before .before .opened .given .0 .0 in
-    let e₁ : find roundOpen (a .to) (drop (a .to) (a .s .now)) ≡ some opened = sym (c .before .before .before .before .before .before .before .before .before .before .before .before .before .find .ensures) ∙ ap placeOf (c .before .before .before .before .before .before .before .before .before .before .before .opened .given .1) in
-    let closed = c .before .before .before .before .before .before .close .given .0 .0 in
-    let e₂ : partner roundOpen roundClose 0 (opened + 1) (drop (opened + 1) (a .s .now)) ≡ some closed = sym (c .before .before .before .before .before .before .before .before .before .list-end .ensures .0) ∙ ap placeOf (c .before .before .before .before .before .before .close .given .1) in
-    let body = c .before .brace .given .0 .0 in
-    let e₃ : bodyAt 0 0 0 (closed + 1) (drop (closed + 1) (a .s .now)) ≡ some body = sym (c .before .before .before .before .body-after .ensures .0) ∙ ap placeOf (c .before .brace .given .1) in
-    let i = body-place (a .s .now) (closed + 1) body e₃ in
-    (i .1, brace-there (a .s .now) (closed + 1) body (i .0) e₃, c .before .before .before .before .body-after .ensures .1)
+    let opened = o .opened .given .0 .0 in
+    let e₁ : find roundOpen (a .to) (drop (a .to) (a .s .now)) ≡ some opened = sym (f .find .ensures) ∙ ap placeOf (o .opened .given .1) in
+    let closed = x .closed .given .0 .0 in
+    let body = x .closed .given .0 .1 .0 in
+    let both : Begins (a .s .now) (opened + 1) (Sought.Both closed body) = subst (Begins (a .s .now) (opened + 1)) (x .closed .given .1) (l .brackets-after .ensures .0) in
+    let never : Blocked (a .s .now) body (Block.Open _) = subst (Blocked (a .s .now) body) (c .before .block .given .1) (k .block-at .ensures) in
+    let gone = open-body (a .s .now) (a .to) opened e₁ closed (both .0) body (both .1) (never .0) in (
+      (record { none-here = λ from. gone from (a .to) (omega arith) (omega (arith, find-place (a .s .now) (a .to) opened roundOpen e₁)); no-function = gone }, never .1),
+      l .brackets-after .ensures .1,
+    )
 
 returns-4 : tie.Need-returns-4
-unfolding Barren
 returns-4 c =
-    let b = c .before .before .before .before .before .before .before .before .before .before .before .before .before .before .before .before .before .before .before in
+    let k = c .before .before .before in
+    let x = k .before .before in
+    let l = x .before .before in
+    let o = l .before .before .before in
+    let f = o .before .before in
+    let b = f .before .before in
     let a = b .args in
-    let opened = c .before .before .before .before .before .before .before .before .before .before .before .before .before .before .before .opened .given .0 .0 in
-    let e₁ : find roundOpen (a .to) (drop (a .to) (a .s .now)) ≡ some opened = sym (c .before .before .before .before .before .before .before .before .before .before .before .before .before .before .before .before .before .find .ensures) ∙ ap placeOf (c .before .before .before .before .before .before .before .before .before .before .before .before .before .before .before .opened .given .1) in
-    let closed = c .before .before .before .before .before .before .before .before .before .before .close .given .0 .0 in
-    let e₂ : partner roundOpen roundClose 0 (opened + 1) (drop (opened + 1) (a .s .now)) ≡ some closed = sym (c .before .before .before .before .before .before .before .before .before .before .before .before .before .list-end .ensures .0) ∙ ap placeOf (c .before .before .before .before .before .before .before .before .before .before .close .given .1) in
-    let body = c .before .before .before .before .before .brace .given .0 .0 in
-    let e₃ : bodyAt 0 0 0 (closed + 1) (drop (closed + 1) (a .s .now)) ≡ some body = sym (c .before .before .before .before .before .before .before .before .body-after .ensures .0) ∙ ap placeOf (c .before .before .before .before .before .brace .given .1) in
-    let k : Blocked (a .s .now) body (Block.Open _) = subst (Blocked (a .s .now) body) (c .before .block .given .1) (c .before .before .before .block-at .ensures) in
-    let gone = open-body (a .s .now) (a .to) opened e₁ closed e₂ body e₃ (k .0) in
-    (record { none-here = λ from. gone from (a .to) (omega arith) (omega (arith, find-place (a .s .now) (a .to) opened roundOpen e₁)); no-function = gone }, k .1)
-
-returns-5 : tie.Need-returns-5
-returns-5 c =
-    let b = c .before .before .before .before .before .before .before .before .before .before .before .before .before .before .before .before .before .before .before in
-    let a = b .args in
-    let opened = c .before .before .before .before .before .before .before .before .before .before .before .before .before .before .before .opened .given .0 .0 in
-    let e₁ : find roundOpen (a .to) (drop (a .to) (a .s .now)) ≡ some opened = sym (c .before .before .before .before .before .before .before .before .before .before .before .before .before .before .before .before .before .find .ensures) ∙ ap placeOf (c .before .before .before .before .before .before .before .before .before .before .before .before .before .before .before .opened .given .1) in
-    let closed = c .before .before .before .before .before .before .before .before .before .before .close .given .0 .0 in
-    let e₂ : partner roundOpen roundClose 0 (opened + 1) (drop (opened + 1) (a .s .now)) ≡ some closed = sym (c .before .before .before .before .before .before .before .before .before .before .before .before .before .list-end .ensures .0) ∙ ap placeOf (c .before .before .before .before .before .before .before .before .before .before .close .given .1) in
-    let body = c .before .before .before .before .before .brace .given .0 .0 in
-    let e₃ : bodyAt 0 0 0 (closed + 1) (drop (closed + 1) (a .s .now)) ≡ some body = sym (c .before .before .before .before .before .before .before .before .body-after .ensures .0) ∙ ap placeOf (c .before .before .before .before .before .brace .given .1) in
-    let k : Blocked (a .s .now) body (Block.Closed _ _) = subst (Blocked (a .s .now) body) (c .before .block2 .given .1) (c .before .before .before .block-at .ensures) in
+    let opened = o .opened .given .0 .0 in
+    let e₁ : find roundOpen (a .to) (drop (a .to) (a .s .now)) ≡ some opened = sym (f .find .ensures) ∙ ap placeOf (o .opened .given .1) in
+    let closed = x .closed .given .0 .0 in
+    let body = x .closed .given .0 .1 .0 in
+    let both : Begins (a .s .now) (opened + 1) (Sought.Both closed body) = subst (Begins (a .s .now) (opened + 1)) (x .closed .given .1) (l .brackets-after .ensures .0) in
+    let block : Blocked (a .s .now) body (Block.Closed _ _) = subst (Blocked (a .s .now) body) (c .before .block2 .given .1) (k .block-at .ensures) in
     let end = c .before .block2 .given .0 .0 .end in
     let i₁ = find-place (a .s .now) (a .to) opened roundOpen e₁ in
-    let i₂ = partner-place (a .s .now) (opened + 1) closed roundOpen roundClose e₂ in
-    let i₃ = body-place (a .s .now) (closed + 1) body e₃ in
-    let i₄ = partner-place (a .s .now) (body + 1) end braceOpen braceClose (k .0) in (
-      record {
-        name-first = i₁ .0;
-        list-order = omega arith;
-        list-first = omega arith;
-        body-order = omega arith;
-        inside = i₄ .1;
-        places = whole (a .s .now) (a .to) opened e₁ closed e₂ body e₃ end (k .0);
-        lines-is = k .1 .lines-is;
-        cyclomatic-is = k .1 .cyclomatic-is;
-        nesting-is = k .1 .nesting-is;
-      },
-      k .2,
+    let i₂ = partner-place (a .s .now) (opened + 1) closed roundOpen roundClose (both .0) in
+    let i₃ = body-place (a .s .now) (closed + 1) body (both .1) in
+    let i₄ = partner-place (a .s .now) (body + 1) end braceOpen braceClose (block .0) in (
+      (
+        record {
+          name-first = i₁ .0;
+          list-order = omega (arith, i₂);
+          list-first = omega (arith, i₃);
+          body-order = omega (arith, i₄);
+          inside = i₄ .1;
+          places = whole (a .s .now) (a .to) opened e₁ closed (both .0) body (both .1) end (block .0);
+          lines-is = block .1 .lines-is;
+          cyclomatic-is = block .1 .cyclomatic-is;
+          nesting-is = block .1 .nesting-is;
+        },
+        block .2,
+      ),
+      l .brackets-after .ensures .1,
     )
 
 pub signature-sought-spec : {M : Type 1} → statement M
@@ -161,17 +161,12 @@ signature-sought-spec =
     (λ c. search needs)
     returns
     add-inside
-    list-end-requires
+    brackets-after-requires
     (λ c. search needs)
     (λ c. search needs)
     returns-2
-    add-body-after
-    body-after-requires
-    (λ c. search needs)
-    (λ c. search needs)
-    returns-3
     block-at-requires
     (λ c. search needs)
     (λ c. search needs)
-    returns-4
-    returns-5)
+    returns-3
+    returns-4)

@@ -1,0 +1,8 @@
+-- What is noted of searches for a body.
+pub mod Angles
+pub mod Bodies
+pub mod Chain
+pub mod Numbers
+pub mod Quiet
+pub mod Settling
+pub mod Walking

@@ -1,0 +1,44 @@
+-- `signatures::fill` meets its contract: the numbers are 0 at first and tell nothing, and those that are set tell what they must.
+use native.Mathlib.Omega.{arith}
+use borrow.Author.Needs.{needs}
+use denote.Ref.{now}
+use Rattle.windows.specs.Window.{noted-nothing}
+use Rattle.signatures.specs.Filling.{begun-window}
+use Rattle.signatures.specs.Signatures.{Told}
+use Rattle.signatures.proofs.fill.Statement.{statement}
+use Rattle.signatures.proofs.fill.Tie as tie
+
+returns : tie.Need-returns
+returns c =
+    let a = c .before .before .before .before .args in
+    noted-nothing (Told (now (a .s))) _ (c .clear .ensures .0) (c .clear .ensures .1)
+
+fill-part-requires : tie.Need-fill-part-requires
+fill-part-requires c κs =
+    let b = c .before in
+    let n = b .before .before in
+    let e = n .ahead .ensures in
+    let t = n .before in
+    let s = t .before .before in
+    let p = s .pre in (
+      omega (arith, e, p .0),
+      omega (arith, e, p .0),
+      omega (arith, e, p .0),
+      omega (arith, t .if1 .left),
+      begun-window (now (s .args .s)) _ (s .args .from) _ _ (b .begin .ensures) (omega arith) (omega (arith, e, p .0)),
+    )
+
+returns-2 : tie.Need-returns-2
+returns-2 c = c .fill-part .ensures .noted
+
+pub fill-spec : {M : Type 1} → statement M
+fill-spec =
+    tie.close
+    (tie.spec
+    (λ c κs. search needs)
+    returns
+    (λ c κs. search needs)
+    (λ c. search needs)
+    (λ c κs. search needs)
+    fill-part-requires
+    returns-2)

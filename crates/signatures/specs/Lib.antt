@@ -1,0 +1,3 @@
+-- What is noted of the brackets of signatures.
+pub mod Signatures
+pub mod Filling
