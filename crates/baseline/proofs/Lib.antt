@@ -6,3 +6,4 @@ mod Halving
 mod KeyOrder
 mod Keys
 mod Numbers
+mod PlainLines

@@ -83,14 +83,18 @@ line-key : (o : Option Entry) → map entryKey (entryList o) ≡ oneKey (keyOfEn
 line-key none = refl
 line-key (some e) = refl
 
-pub keys-next : (s : List ℕ) (from end to : ℕ) (k : Option (List ℕ)) → end ≡ from + bytesBefore 10 (drop from s) → part from to s ≡ lineAt s from end
-    → k ≡ keyOfEntry (entryOf (part from to s)) → keysIn (drop from s) ≡ oneKey k ++ keysIn (drop (end + 1) s)
-keys-next s from end to k e p q =
-    let here = entryOf (part from to s) in
+pub keys-line : (s : List ℕ) (from end : ℕ) (k : Option (List ℕ)) → end ≡ from + bytesBefore 10 (drop from s) → k ≡ keyOfEntry (entryOf (lineAt s from end))
+    → keysIn (drop from s) ≡ oneKey k ++ keysIn (drop (end + 1) s)
+keys-line s from end k e q =
+    let here = entryOf (lineAt s from end) in
     let rest = entriesOfLines (drop (end + 1) s) in
-    ap (map entryKey) (entries-next s from end e ∙ ap (λ l. entryList (entryOf l) ++ rest) (sym p))
+    ap (map entryKey) (entries-next s from end e)
     ∙ map-append entryKey (entryList here) rest
     ∙ ap (λ ks. ks ++ map entryKey rest) (line-key here ∙ ap oneKey (sym q))
+
+pub keys-next : (s : List ℕ) (from end to : ℕ) (k : Option (List ℕ)) → end ≡ from + bytesBefore 10 (drop from s) → part from to s ≡ lineAt s from end
+    → k ≡ keyOfEntry (entryOf (part from to s)) → keysIn (drop from s) ≡ oneKey k ++ keysIn (drop (end + 1) s)
+keys-next s from end to k e p q = keys-line s from end k e (q ∙ ap (λ l. keyOfEntry (entryOf l)) p)
 
 -- no line is left
 pub keys-end : (s : List ℕ) (at : ℕ) → length s ≤ at → keysIn (drop at s) ≡ []

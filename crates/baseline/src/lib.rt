@@ -14,6 +14,7 @@ ghost use Rattle.gate_rules.specs.Baseline.{entriesOfLines, entryOf, entryWith,
 ghost use Rattle.gate_rules.specs.Functions.{keyOf};
 ghost use Rattle.baseline.specs.Halves.{Below, Between, Leads, below, beyond};
 ghost use Rattle.baseline.specs.Ordered.{Unfalling, keysIn};
+ghost use Rattle.baseline.specs.Plain.{Digits, Front, NumberField, ReadPlain, Text};
 ghost use Rattle.baseline.specs.Reads.{Inside, KeyFrom, KeyInside, PathEnds, acceptedBy, entryIn, hit, keyIn, keyOfEntry, later, lineAt, numberOf};
 
 const TAB: u8 = b'\t';
@@ -214,6 +215,122 @@ pub fn entry(line: &[u8]) -> Line
 {
     let path = field_end(line, 0);
     entry_with(line, path)
+}
+
+// ---- lines as update writes them
+
+// Where text ends that stands at a place: at the next byte up to LF, as tab and LF are, or at the end.
+fn text_end(s: &[u8], from: usize) -> usize
+    requires { ⌜ from ≤ length (now s) ⌝ }
+    ensures { λ r. ⌜ (from ≤ r) × (r ≤ length (now (s .entry))) × Text (now (s .entry)) from r ⌝ }
+{
+    let mut at = from;
+    while at < s.len() {
+        if s[at] <= LF {
+            return at;
+        }
+        at += 1;
+    }
+    at
+}
+
+// Where the digits at a place end.
+fn digits_end(s: &[u8], from: usize) -> usize
+    requires { ⌜ from ≤ length (now s) ⌝ }
+    ensures { λ r. ⌜ (from ≤ r) × (r ≤ length (now (s .entry))) × Digits (now (s .entry)) from r ⌝ }
+{
+    let mut at = from;
+    while at < s.len() {
+        if !is_digit(s[at]) {
+            return at;
+        }
+        at += 1;
+    }
+    at
+}
+
+// Where one to nine digits end at the byte `x`, or the place itself where they do not stand there. Nine digits fit into 32 bits.
+fn number_end(s: &[u8], from: usize, x: u8) -> usize
+    requires { ⌜ from ≤ length (now s) ⌝ }
+    ensures { λ r. ⌜ (from ≤ r) × (from < r → NumberField (now (s .entry)) from r x) ⌝ }
+{
+    let end = digits_end(s, from);
+    if 9 < end - from {
+        return from;
+    }
+    if end == s.len() {
+        return from;
+    }
+    if s[end] != x {
+        return from;
+    }
+    end
+}
+
+// A line that is read in one walk: the bytes of its path, where its name ends, and where it ends.
+pub struct Bounds {
+    pub path: usize,
+    pub name: usize,
+    pub end: usize,
+}
+
+// A line of path, name and two numbers of one to nine digits that an LF ends, or any other.
+pub enum Plain {
+    Line(Bounds),
+    Other,
+}
+
+// The numbers of a line whose path ends at one place and whose name ends at another, where a tab stands.
+fn plain_numbers(s: &[u8], from: usize, a: usize, b: usize) -> Plain
+    requires { ⌜ Front (now s) from a b × (b < length (now s)) × (getD (now s) b 0 ≡ tab) ⌝ }
+    ensures { λ r. ⌜ ReadPlain (now (s .entry)) from r ⌝ }
+{
+    let c = number_end(s, b + 1, TAB);
+    if c <= b + 1 {
+        return Plain::Other;
+    }
+    let d = number_end(s, c + 1, LF);
+    if d <= c + 1 {
+        return Plain::Other;
+    }
+    Plain::Line(Bounds {
+        path: a - from,
+        name: b,
+        end: d,
+    })
+}
+
+// The rest of a line of which path, tab and text were read up to a place.
+pub fn plain_rest(s: &[u8], from: usize, a: usize, at: usize) -> Plain
+    requires { ⌜ Front (now s) from a at ⌝ }
+    ensures { λ r. ⌜ ReadPlain (now (s .entry)) from r ⌝ }
+{
+    let b = text_end(s, at);
+    if b == s.len() {
+        return Plain::Other;
+    }
+    if s[b] != TAB {
+        return Plain::Other;
+    }
+    plain_numbers(s, from, a, b)
+}
+
+// The line that begins at a place.
+pub fn plain_line(s: &[u8], from: usize) -> Plain
+    requires { ⌜ from < length (now s) ⌝ }
+    ensures { λ r. ⌜ ReadPlain (now (s .entry)) from r ⌝ }
+{
+    if s[from] == HASH {
+        return Plain::Other;
+    }
+    let a = text_end(s, from);
+    if a == s.len() {
+        return Plain::Other;
+    }
+    if s[a] != TAB {
+        return Plain::Other;
+    }
+    plain_rest(s, from, a, a + 1)
 }
 
 // Whether the bytes are those of path, tab and name. The name is compared first: it tells the functions of a file apart.

@@ -19,6 +19,7 @@ ghost use Rattle.functions.specs.Shown.{limitsOf};
 ghost use Rattle.baseline.specs.Ordered.{Unfalling, keysIn};
 ghost use Rattle.places.specs.Places.{Filled};
 ghost use Rattle.in_order.specs.StaleKeys.{AllStand, staleIn};
+ghost use Rattle.in_order.specs.Whole.{Whole};
 ghost use Rattle.gate_check.specs.Checks.{Checks, Refuses, Tells};
 ghost use Rattle.gate_check.specs.Texts.{someStale, staleLength, verdictLength, worseIn};
 use functions::Limits;
@@ -68,6 +69,7 @@ fn put_stale_text(
     n: usize,
     lines: &[u8],
     ordered: bool,
+    whole: bool,
     count: usize,
     output: &mut [u8],
     at: usize,
@@ -79,6 +81,7 @@ fn put_stale_text(
         × (at + someStale count (length (listed (map spaced (staleIn (now tree) (now lines))))) ≤ length (now output))
         × (length (now lines) ≤ 33554432)
         × (ordered ≡ true → Unfalling (keysIn (now lines)))
+        × (whole ≡ true → Whole (now tree) (now lines))
         ⌝ }
     ensures { λ r. ⌜
         (r ≡ at + someStale count (length (listed (map spaced (staleIn (now (tree .entry)) (now (lines .entry)))))))
@@ -87,7 +90,7 @@ fn put_stale_text(
 {
     let words = listing::put_number(output, at, count as u64);
     let keys = listing::put_text(output, words, b" baseline entries no longer exist:\n");
-    let end = stale::put_all(tree, lent, n, lines, ordered, output, keys);
+    let end = stale::put_all(tree, lent, n, lines, ordered, whole, output, keys);
     listing::put_text(output, end, b"run --update to drop them\n")
 }
 
@@ -98,6 +101,7 @@ fn put_stale(
     n: usize,
     lines: &[u8],
     ordered: bool,
+    whole: bool,
     count: usize,
     output: &mut [u8],
     at: usize,
@@ -108,6 +112,7 @@ fn put_stale(
         × (at + length (staleText (staleIn (now tree) (now lines))) ≤ length (now output))
         × (length (now lines) ≤ 33554432)
         × (ordered ≡ true → Unfalling (keysIn (now lines)))
+        × (whole ≡ true → Whole (now tree) (now lines))
         ⌝ }
     ensures { λ r. ⌜
         (r ≡ at + length (staleText (staleIn (now (tree .entry)) (now (lines .entry)))))
@@ -117,7 +122,7 @@ fn put_stale(
     if count == 0 {
         return at;
     }
-    put_stale_text(tree, lent, n, lines, ordered, count, output, at)
+    put_stale_text(tree, lent, n, lines, ordered, whole, count, output, at)
 }
 
 // ---- the verdict
@@ -196,7 +201,17 @@ fn told(
     if output.len() < bytes {
         return refusal(9);
     }
-    let next = put_stale(tree, lent, n, lines, ordered, gone.count, output, 0);
+    let next = put_stale(
+        tree,
+        lent,
+        n,
+        lines,
+        ordered,
+        gone.whole,
+        gone.count,
+        output,
+        0,
+    );
     let end = put_verdict(
         limits,
         tree,

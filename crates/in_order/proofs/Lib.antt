@@ -1,3 +1,5 @@
 -- The laws that the functions cite.
 mod Rise
 mod Passing
+mod PlainKeys
+mod Wholes

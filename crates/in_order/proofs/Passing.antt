@@ -21,7 +21,7 @@ use Rattle.gate_rules.specs.LoopForms.{listed-append}
 use Rattle.gate_rules.specs.Scan.{functionsOf}
 use Rattle.baseline.specs.declared.Key.{Key}
 use Rattle.baseline.specs.declared.Key.the-variants.{Bytes, Nothing}
-use Rattle.baseline.specs.Ordered.{Unfalling, keys-end, keys-next, keysIn}
+use Rattle.baseline.specs.Ordered.{Unfalling, keys-end, keys-line, keysIn}
 use Rattle.baseline.specs.Reads.{keyIn, keyOfEntry, lineAt}
 use Rattle.in_order.specs.InOrder.{addedIn, in-order, in-order-end, in-order-line, in-order-most, inOrder, lastAfter, latest, repeats}
 use Rattle.in_order.specs.KeyLines.{Written, entries-read, keyLines, line-length}
@@ -59,6 +59,9 @@ put-end at ks s e = ap (λ js. putAt at (keyLines js) s) e ∙ put-none at s
 pub written-none : (at : ℕ) (s : List ℕ) → Written at [] s at s
 unfolding listed
 written-none at s = (omega arith, sym (put-none at s))
+
+pub written-same : (at : ℕ) (s : List ℕ) {next : ℕ} {t : List ℕ} (ks js : List (List ℕ)) → ks ≡ js → Written at js s next t → Written at ks s next t
+written-same at s ks js e w = (w .0 ∙ ap (λ is. at + length (keyLines is)) (sym e), w .1 ∙ ap (λ is. putAt at (keyLines is) s) (sym e))
 
 -- a buffer keeps its length
 pub written-length : (at next : ℕ) (ks : List (List ℕ)) (s t : List ℕ) → Written at ks s next t → at + length (keyLines ks) ≤ length s → length t ≡ length s
@@ -108,10 +111,10 @@ module _ (tree lines : List ℕ) where
   after last (Bytes a b) = refl
   after last Nothing = refl
 
-  pub come-line : (last here key : Key) (from end to : ℕ) → end ≡ from + bytesBefore 10 (drop from lines) → part from to lines ≡ lineAt lines from end
-      → keyIn lines here ≡ keyOfEntry (entryOf (part from to lines)) → key ≡ latest last here → toCome last from ≡ addedIn tree lines last here ++ toCome key (end + 1)
-  come-line last here key from end to e p q r =
-      ap (inOrder live (keyIn lines last)) (keys-next lines from end to (keyIn lines here) e p q)
+  pub come-line : (last here key : Key) (from end : ℕ) → end ≡ from + bytesBefore 10 (drop from lines)
+      → keyIn lines here ≡ keyOfEntry (entryOf (lineAt lines from end)) → key ≡ latest last here → toCome last from ≡ addedIn tree lines last here ++ toCome key (end + 1)
+  come-line last here key from end e q r =
+      ap (inOrder live (keyIn lines last)) (keys-line lines from end (keyIn lines here) e q)
       ∙ in-order-line live (keyIn lines last) (keyIn lines here) (keysIn (drop (end + 1) lines))
       ∙ ap (λ l. addedIn tree lines last here ++ inOrder live l (keysIn (drop (end + 1) lines))) (after last here ∙ ap (keyIn lines) (sym r))
 

@@ -8,7 +8,7 @@ use lib.ListN.{length, drop}
 use Rattle.text_rules.specs.Search.{bytesBefore, part}
 use Rattle.gate_rules.specs.Baseline.{entryOf}
 use Rattle.order.specs.Best.{lastOf}
-use Rattle.baseline.specs.Ordered.{Unfalling, cut-end, cut-next, fallen, keys-next, keysIn, unfalling-more}
+use Rattle.baseline.specs.Ordered.{Unfalling, cut-end, cut-next, fallen, keys-line, keysIn, unfalling-more}
 use Rattle.baseline.specs.Reads.{KeyInside, keyIn, keyOfEntry, lineAt}
 use Rattle.baseline.specs.declared.Key.{Key}
 use Rattle.baseline.specs.declared.Key.the-variants.{Bytes, Nothing}
@@ -40,20 +40,20 @@ module _ (s : List ℕ) where
   pub risen-start : Risen Nothing 0
   risen-start = record { seen = []; cut = refl; rise = tt; last-seen = refl; inside = tt }
 
-  pub risen-next : (last here : Key) (from end to : ℕ) → Risen last from → end ≡ from + bytesBefore 10 (drop from s) → part from to s ≡ lineAt s from end
-      → KeyInside s here → keyIn s here ≡ keyOfEntry (entryOf (part from to s)) → fallen (keyIn s last) (keyIn s here) ≡ false → Risen (latest last here) (end + 1)
-  risen-next last (Bytes a b) from end to u e p i q h =
+  pub risen-next : (last here : Key) (from end : ℕ) → Risen last from → end ≡ from + bytesBefore 10 (drop from s)
+      → KeyInside s here → keyIn s here ≡ keyOfEntry (entryOf (lineAt s from end)) → fallen (keyIn s last) (keyIn s here) ≡ false → Risen (latest last here) (end + 1)
+  risen-next last (Bytes a b) from end u e i q h =
       record {
         seen = u .seen ++ part a b s ∷ [];
-        cut = cut-next s from end (u .seen) (some (part a b s)) (u .cut) (keys-next s from end to (some (part a b s)) e p q);
+        cut = cut-next s from end (u .seen) (some (part a b s)) (u .cut) (keys-line s from end (some (part a b s)) e q);
         rise = rise-more (u .seen) (keyIn s last) (part a b s) (u .rise) (u .last-seen) h;
         last-seen = sym (last-is (u .seen) (part a b s));
         inside = i;
       }
-  risen-next last Nothing from end to u e p i q h =
+  risen-next last Nothing from end u e i q h =
       record {
         seen = u .seen ++ [];
-        cut = cut-next s from end (u .seen) none (u .cut) (keys-next s from end to none e p q);
+        cut = cut-next s from end (u .seen) none (u .cut) (keys-line s from end none e q);
         rise = subst Unfalling (sym (append-nil (u .seen))) (u .rise);
         last-seen = subst (λ ks. keyIn s last ≡ lastOf ks) (sym (append-nil (u .seen))) (u .last-seen);
         inside = u .inside;

@@ -80,6 +80,35 @@ common-most [] t = omega arith
 common-most (x ∷ l) [] = omega arith
 common-most (x ∷ l) (y ∷ t) = elim (whether (eqb x y)) [ inl e ↦ rw e (omega (arith, common-most l t)) | inr e ↦ rw e (omega arith) ]
 
+pub common-least : (l t : List ℕ) → common l t ≤ length l
+unfolding common
+common-least [] t = omega arith
+common-least (x ∷ l) [] = omega arith
+common-least (x ∷ l) (y ∷ t) = elim (whether (eqb x y)) [ inl e ↦ rw e (omega (arith, common-least l t)) | inr e ↦ rw e (omega arith) ]
+
+pub common-bytes : (l t : List ℕ) (i : ℕ) → i < common l t → getD l i 0 ≡ getD t i 0
+unfolding common
+common-bytes [] t i h = absurd (omega arith)
+common-bytes (x ∷ l) [] i h = absurd (omega arith)
+common-bytes (x ∷ l) (y ∷ t) zero h =
+    elim (whether (eqb x y)) [
+      | inl e ↦ eqb-true x y e
+      | inr e ↦ let h′ = rw e at h in absurd (omega arith)
+    ]
+common-bytes (x ∷ l) (y ∷ t) (suc i) h =
+    elim (whether (eqb x y)) [
+      | inl e ↦ let h′ = rw e at h in common-bytes l t i (omega arith)
+      | inr e ↦ let h′ = rw e at h in absurd (omega arith)
+    ]
+
+-- with the beginning of a text
+pub common-take : (l t : List ℕ) (n : ℕ) → common l (take n t) ≡ min (common l t) n
+unfolding common
+common-take [] t n = omega arith
+common-take (x ∷ l) t zero = omega arith
+common-take (x ∷ l) [] (suc n) = omega arith
+common-take (x ∷ l) (y ∷ t) (suc n) = elim (whether (eqb x y)) [ inl e ↦ rw e (omega (arith, common-take l t n)) | inr e ↦ rw e (omega arith) ]
+
 -- ---- the first c bytes of t against l
 
 by-bytes : (x y : ℕ) → eqb x y ≡ true → (ltb y x ≡ false) × (eqb y x ≡ true)

@@ -2,7 +2,7 @@
 -- last one. Keys that stand next to each other mostly have one path.
 use Prim.Native.Nat.{ℕ, _+_, _-_, _≤_, _<_}
 use mathlib.Core.Path.{_≡_, refl, ap, subst, sym, _∙_}
-use mathlib.Core.Bool.{false}
+use mathlib.Core.Bool.{true, false}
 use mathlib.Core.List.{List}
 use mathlib.Core.Option.{Option, none, some}
 use native.Mathlib.Omega.{arith}
@@ -10,16 +10,20 @@ use lib.Dec.{eqb, ltb}
 use lib.ListN.{length, take, drop, getD, length-drop, length-take}
 use lib.Seq.{getD-drop, getD-take, take-all, take-take}
 use Rattle.text_rules.specs.Bytes.{before, same}
+use Rattle.text_rules.specs.BytesLaws.{true-false}
 use Rattle.text_rules.specs.Classes.{tab}
 use Rattle.text_rules.specs.Search.{bytesBefore, part}
+use Rattle.gate_rules.specs.Baseline.{entryOf}
 use Rattle.gate_rules.specs.Functions.{Fun}
 use Rattle.gate_rules.specs.Gate.{gate}
 use Rattle.gate_rules.specs.Scan.{functionsOf}
 use Rattle.baseline.specs.declared.Key.{Key}
 use Rattle.baseline.specs.declared.Key.the-variants.{Bytes, Nothing}
-use Rattle.baseline.specs.Reads.{KeyFrom, KeyInside, keyIn}
+use Rattle.baseline.specs.Plain.{PlainKey}
+use Rattle.baseline.specs.Reads.{KeyFrom, KeyInside, keyIn, keyOfEntry, lineAt}
 use Rattle.live.specs.Live.{Only, pathOf}
 use Rattle.in_order.specs.Common.{before-past, before-there, before-within, common-most, common-path, commonWith, front-path, same-there, same-within}
+use Rattle.in_order.specs.Whole.{PlainAt}
 use Rattle.in_order.specs.declared.Found.{Found}
 use Rattle.in_order.specs.declared.Last.{Last}
 
@@ -39,24 +43,25 @@ pub record Knows (tree lines : List ℕ) (last : Last) : Type 0 where
   pub path-is : PathLength (keyIn lines (last .key)) (last .path)
   pub few : last .to ≤ length (functionsOf gate tree)
   pub ranged : Ranged (functionsOf gate tree) (keyIn lines (last .key)) (last .from) (last .to)
+  pub plain-key : last .plain ≡ true → PlainKey lines (last .key) (last .path)
 
 -- a key has the path of the last one
 abbrev pub OnPath : Option (List ℕ) → List ℕ → Type 0
 OnPath none k = ⊥
-OnPath (some l) k = (bytesBefore tab k ≡ bytesBefore tab l) × (pathOf k ≡ pathOf l)
+OnPath (some l) k = pathOf k ≡ pathOf l
 
 -- ---- what is known of the last key
 
 abbrev pub noLast : Last
-noLast = record { key = Nothing; path = 0; from = 0; to = 0 }
+noLast = record { key = Nothing; path = 0; from = 0; to = 0; plain = false }
 
 pub knows-start : (tree lines : List ℕ) → Knows tree lines noLast
-knows-start tree lines = record { inside = tt; path-is = tt; few = omega arith; ranged = tt }
+knows-start tree lines = record { inside = tt; path-is = tt; few = omega arith; ranged = tt; plain-key = λ e. absurd (true-false false e refl) }
 
 -- a key with the same path
-on-path : (fs : List Fun) (o : Option (List ℕ)) (k : List ℕ) (n from to : ℕ) → OnPath o k → PathLength o n → Ranged fs o from to → PathLength (some k) n × Ranged fs (some k) from to
-on-path fs none k n from to p e r = absurd p
-on-path fs (some l) k n from to p e r = (e ∙ sym (p .0), λ j q. r j (q ∙ p .1))
+on-path : (fs : List Fun) (o : Option (List ℕ)) (k : List ℕ) (from to : ℕ) → OnPath o k → Ranged fs o from to → Ranged fs (some k) from to
+on-path fs none k from to p r = absurd p
+on-path fs (some l) k from to p r = λ j q. r j (q ∙ p)
 
 -- ---- a line against the last key
 
@@ -77,6 +82,15 @@ MeetsKey last (some k) path shared = Meets last k path shared
 pub record Finds (lines : List ℕ) (last : Key) (here : Found) : Type 0 where
   pub inside : KeyInside lines (here .key)
   pub meets : MeetsKey (keyIn lines last) (keyIn lines (here .key)) (here .path) (here .common)
+  pub plain-key : here .plain ≡ true → PlainKey lines (here .key) (here .path)
+
+-- it is found in the line that begins at a place
+pub record OfLine (lines : List ℕ) (from : ℕ) (here : Found) : Type 0 where
+  pub ends : here .end ≡ from + bytesBefore 10 (drop from lines)
+  pub begins : from ≤ here .end
+  pub inside : here .end ≤ length lines
+  pub key-is : keyIn lines (here .key) ≡ keyOfEntry (entryOf (lineAt lines from (here .end)))
+  pub plain-at : here .plain ≡ true → PlainAt lines from
 
 module _ (o : Option (List ℕ)) (t : List ℕ) (n m : ℕ) (p : PathLength o n) (e : m ≡ commonWith o t) (h : n < m) where
   -- a line that begins with the path and the tab of the last key has the path
@@ -155,7 +169,7 @@ meets-path (some l) k n path shared p h m =
     let e = m .shared-is in
     let same = known-path (some l) (m .line) n shared p e h .0 in
     let c = common-path l (m .line) (length k) (omega arith) (omega (arith, m .path-is, m .path-in)) in
-    (ap (bytesBefore tab) (m .begins) ∙ c .0, ap pathOf (m .begins) ∙ c .1)
+    ap pathOf (m .begins) ∙ c .1
 
 module _ (tree lines : List ℕ) (last : Last) (here : Found) (a b : ℕ) (f : Finds lines (last .key) here) (q : here .key ≡ Bytes a b) where
   pub finds-inside : (a ≤ b) × (b ≤ length lines)
@@ -164,18 +178,24 @@ module _ (tree lines : List ℕ) (last : Last) (here : Found) (a b : ℕ) (f : F
   pub finds-meets : Meets (keyIn lines (last .key)) (part a b lines) (here .path) (here .common)
   finds-meets = subst (λ j. MeetsKey (keyIn lines (last .key)) (keyIn lines j) (here .path) (here .common)) q (f .meets)
 
+  own : PathLength (some (part a b lines)) (here .path)
+  own = own-path (keyIn lines (last .key)) (part a b lines) (here .path) (here .common) finds-meets
+
+  own-plain : here .plain ≡ true → PlainKey lines (Bytes a b) (here .path)
+  own-plain e = subst (λ j. PlainKey lines j (here .path)) q (f .plain-key e)
+
   -- a key with the path of the last one
-  pub knows-next : Knows tree lines last → last .path < here .common → Knows tree lines (record { key = Bytes a b; path = last .path; from = last .from; to = last .to })
+  pub knows-next : Knows tree lines last → last .path < here .common
+      → Knows tree lines (record { key = Bytes a b; path = here .path; from = last .from; to = last .to; plain = here .plain })
   knows-next k h =
       let p = meets-path (keyIn lines (last .key)) (part a b lines) (last .path) (here .path) (here .common) (k .path-is) h finds-meets in
-      let o = on-path (functionsOf gate tree) (keyIn lines (last .key)) (part a b lines) (last .path) (last .from) (last .to) p (k .path-is) (k .ranged) in
-      record { inside = finds-inside; path-is = o .0; few = k .few; ranged = o .1 }
+      let r = on-path (functionsOf gate tree) (keyIn lines (last .key)) (part a b lines) (last .from) (last .to) p (k .ranged) in
+      record { inside = finds-inside; path-is = own; few = k .few; ranged = r; plain-key = own-plain }
 
   -- or with another
   pub knows-first : (from to : ℕ) → to ≤ length (functionsOf gate tree) → ((k : List ℕ) → pathOf k ≡ pathOf (part a b lines) → Only k (functionsOf gate tree) from to)
-      → Knows tree lines (record { key = Bytes a b; path = here .path; from = from; to = to })
-  knows-first from to h r =
-      record { inside = finds-inside; path-is = own-path (keyIn lines (last .key)) (part a b lines) (here .path) (here .common) finds-meets; few = h; ranged = r }
+      → Knows tree lines (record { key = Bytes a b; path = here .path; from = from; to = to; plain = here .plain })
+  knows-first from to h r = record { inside = finds-inside; path-is = own; few = h; ranged = r; plain-key = own-plain }
 
 -- the key itself: where it stands, and the functions that may have it
 module _ (tree lines : List ℕ) (last : Last) (a b : ℕ) (k : Knows tree lines last) (e : last .key ≡ Bytes a b) where

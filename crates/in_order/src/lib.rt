@@ -2,10 +2,11 @@
 // stand there in the order in which they are listed, so one pass measures them, and one writes them.
 ghost use mathlib.Core.Path.{_≡_};
 ghost use mathlib.Core.List.{[], _∷_, map};
-ghost use Prim.Native.Nat.{_+_, _≤_, min};
-ghost use mathlib.Core.Bool.{true, _||_};
-ghost use lib.ListN.{length, drop};
-ghost use Rattle.text_rules.specs.Bytes.{among};
+ghost use Prim.Native.Nat.{_+_, _-_, _≤_, _<_, min};
+ghost use mathlib.Core.Bool.{true, false, _||_};
+ghost use mathlib.Core.Logic.{_≢_};
+ghost use lib.ListN.{length, drop, getD};
+ghost use Rattle.text_rules.specs.Bytes.{among, putAt};
 ghost use Rattle.text_rules.specs.Classes.{tab};
 ghost use Rattle.text_rules.specs.Search.{bytesBefore, part};
 ghost use Rattle.text_rules.specs.Utf8.{isUtf8};
@@ -14,14 +15,23 @@ ghost use Rattle.gate_rules.specs.Functions.{key};
 ghost use Rattle.gate_rules.specs.Gate.{gate};
 ghost use Rattle.gate_rules.specs.Scan.{functionsOf};
 ghost use Rattle.baseline.specs.Ordered.{Unfalling, fallen, keysIn};
+ghost use Rattle.baseline.specs.Plain.{PlainKey, ReadPlain};
 ghost use Rattle.baseline.specs.Reads.{KeyInside, keyIn, keyOfEntry};
 ghost use Rattle.baseline.specs.declared.Key.the-variants.{Bytes};
 ghost use Rattle.in_order.specs.Common.{common, commonWith};
 ghost use Rattle.in_order.specs.InOrder.{addedIn, latest, repeats};
 ghost use Rattle.in_order.specs.KeyLines.{Sizes, Written, keyLines};
-ghost use Rattle.in_order.specs.Paths.{Finds, Knows, PathLength};
+ghost use Rattle.in_order.specs.Paths.{Finds, Knows, OfLine, PathLength};
 ghost use Rattle.in_order.specs.StaleKeys.{AllStand, staleIn};
+ghost use Rattle.in_order.specs.Whole.{AllPlain, PlainOrNote, Whole, firstField, keysAt, lineEnd, secondTab, tabFrom};
 use baseline::Key;
+use baseline::Plain;
+
+const HASH: u8 = b'#';
+
+const TAB: u8 = b'\t';
+
+const LF: u8 = b'\n';
 
 // How many there are, and the bytes of their lines.
 pub struct Size {
@@ -39,19 +49,23 @@ pub fn put_key(out: &mut [u8], at: usize, bytes: &[u8]) -> usize
     listing::put_text(out, end, b"\n")
 }
 
-// The last key, the bytes of its path, and the functions that may have a key with that path, from one number up to another.
+// The last key, the bytes of its path, and the functions that may have a key with that path, from one number up to another. A plain key is known to have
+// one tab and no LF.
 struct Last {
     key: Key,
     path: usize,
     from: usize,
     to: usize,
+    plain: bool,
 }
 
-// The key of a line, the bytes of its path, and how many bytes the line has in common with the last key.
+// The key of a line, the bytes of its path, how many bytes the line has in common with the last key, and where it ends.
 struct Found {
     key: Key,
     path: usize,
     common: usize,
+    end: usize,
+    plain: bool,
 }
 
 // The lesser of two numbers.
@@ -64,16 +78,16 @@ fn least(a: usize, b: usize) -> usize
     b
 }
 
-// Whether the eight bytes at a place are the same in both texts: the compiler compares them at once.
-fn alike(s: &[u8], t: &[u8], at: usize) -> bool
-    requires { ⌜ (at + 8 ≤ length (now s)) × (at + 8 ≤ length (now t)) ⌝ }
+// Whether the `n` bytes at a place are the same in both texts: where `n` is eight or four, the compiler compares them at once.
+fn alike(s: &[u8], t: &[u8], at: usize, n: usize) -> bool
+    requires { ⌜ (at + n ≤ length (now s)) × (at + n ≤ length (now t)) ⌝ }
     ensures { λ r. ⌜
-        (r ≡ true → common (drop at (now (s .entry))) (drop at (now (t .entry))) ≡ 8 + common (drop (at + 8) (now (s .entry))) (drop (at + 8) (now (t .entry))))
+        (r ≡ true → common (drop at (now (s .entry))) (drop at (now (t .entry))) ≡ n + common (drop (at + n) (now (s .entry))) (drop (at + n) (now (t .entry))))
         ⌝ }
 {
     let mut all = true;
     let mut i: usize = 0;
-    while i < 8 {
+    while i < n {
         if s[at + i] != t[at + i] {
             all = false;
         }
@@ -83,18 +97,33 @@ fn alike(s: &[u8], t: &[u8], at: usize) -> bool
 }
 
 // Past the eights that are the same in both texts, of which the shorter has `most` bytes.
-fn past_alike(s: &[u8], t: &[u8], most: usize) -> usize
+fn past_eights(s: &[u8], t: &[u8], most: usize) -> usize
     requires { ⌜ most ≡ min (length (now s)) (length (now t)) ⌝ }
     ensures { λ r. ⌜ (r ≤ most) × (r + common (drop r (now (s .entry))) (drop r (now (t .entry))) ≡ common (now (s .entry)) (now (t .entry))) ⌝ }
 {
     let mut at = 0;
     while 8 <= most - at {
-        if !alike(s, t, at) {
+        if !alike(s, t, at, 8) {
             return at;
         }
         at += 8;
     }
     at
+}
+
+// Past the eights and a four that are the same in both texts.
+fn past_alike(s: &[u8], t: &[u8], most: usize) -> usize
+    requires { ⌜ most ≡ min (length (now s)) (length (now t)) ⌝ }
+    ensures { λ r. ⌜ (r ≤ most) × (r + common (drop r (now (s .entry))) (drop r (now (t .entry))) ≡ common (now (s .entry)) (now (t .entry))) ⌝ }
+{
+    let at = past_eights(s, t, most);
+    if most - at < 4 {
+        return at;
+    }
+    if !alike(s, t, at, 4) {
+        return at;
+    }
+    at + 4
 }
 
 // How many bytes two texts have in common from their starts on.
@@ -139,8 +168,8 @@ fn path_length(lines: &[u8], last: Last, from: usize, to: usize, common: usize) 
     baseline::field_end(&lines[from..to], 0)
 }
 
-// What is found in the line that stands from one place up to another.
-fn line_key(lines: &[u8], last: Last, from: usize, to: usize) -> Found
+// What is found in the line that stands from one place up to another, behind which a CR may stand before the line's end.
+fn line_key(lines: &[u8], last: Last, from: usize, to: usize, end: usize) -> Found
     requires { ⌜
         KeyInside (now lines) (last .key)
         × PathLength (keyIn (now lines) (last .key)) (last .path)
@@ -150,13 +179,76 @@ fn line_key(lines: &[u8], last: Last, from: usize, to: usize) -> Found
     ensures { λ r. ⌜
         (keyIn (now (lines .entry)) (r .key) ≡ keyOfEntry (entryOf (part from to (now (lines .entry)))))
         × Finds (now (lines .entry)) (last .key) r
+        × (r .end ≡ end)
+        × (r .plain ≡ false)
         ⌝ }
 {
     let before = last.key;
     let common = common_with(lines, before, from, to);
     let path = path_length(lines, last, from, to, common);
     let key = baseline::key_with(lines, from, to, path);
-    Found { key, path, common }
+    Found {
+        key,
+        path,
+        common,
+        end,
+        plain: false,
+    }
+}
+
+// What is found in the line at a place, field by field.
+fn any_line(lines: &[u8], last: Last, from: usize) -> Found
+    requires { ⌜
+        KeyInside (now lines) (last .key)
+        × PathLength (keyIn (now lines) (last .key)) (last .path)
+        × (from ≤ length (now lines))
+        ⌝ }
+    ensures { λ r. ⌜ OfLine (now (lines .entry)) from r × Finds (now (lines .entry)) (last .key) r ⌝ }
+{
+    let end = baseline::line_end(lines, from);
+    let to = baseline::trimmed_end(lines, from, end);
+    line_key(lines, last, from, to, end)
+}
+
+// The line at a place in one walk. What it has in common with a plain key that has its path is not read again.
+fn plain_line(lines: &[u8], last: Last, from: usize, common: usize) -> Plain
+    requires { ⌜
+        (last .plain ≡ true → PlainKey (now lines) (last .key) (last .path))
+        × (from < length (now lines))
+        × (common ≡ commonWith (keyIn (now lines) (last .key)) (part from (length (now lines)) (now lines)))
+        ⌝ }
+    ensures { λ r. ⌜ ReadPlain (now (lines .entry)) from r ⌝ }
+{
+    if last.plain {
+        if last.path < common {
+            return baseline::plain_rest(lines, from, from + last.path, from + common);
+        }
+    }
+    baseline::plain_line(lines, from)
+}
+
+// What is found in the line at a place.
+fn line_at(lines: &[u8], last: Last, from: usize) -> Found
+    requires { ⌜
+        KeyInside (now lines) (last .key)
+        × PathLength (keyIn (now lines) (last .key)) (last .path)
+        × (last .plain ≡ true → PlainKey (now lines) (last .key) (last .path))
+        × (from < length (now lines))
+        ⌝ }
+    ensures { λ r. ⌜ OfLine (now (lines .entry)) from r × Finds (now (lines .entry)) (last .key) r ⌝ }
+{
+    let before = last.key;
+    let common = common_with(lines, before, from, lines.len());
+    match plain_line(lines, last, from, common) {
+        Plain::Line(l) => Found {
+            key: Key::Bytes(from, l.name),
+            path: l.path,
+            common: least(common, l.end - from),
+            end: l.end,
+            plain: true,
+        },
+        Plain::Other => any_line(lines, last, from),
+    }
 }
 
 // Whether the key of a line stands before the last key. Where there is none, it does not.
@@ -210,9 +302,10 @@ fn after(tree: &[u8], lent: &[u8], n: usize, lines: &[u8], last: Last, here: Fou
             if last.path < here.common {
                 return Last {
                     key: Key::Bytes(from, to),
-                    path: last.path,
+                    path: here.path,
                     from: last.from,
                     to: last.to,
+                    plain: here.plain,
                 };
             }
             let range = live::range(tree, lent, n, &lines[from..to]);
@@ -221,6 +314,7 @@ fn after(tree: &[u8], lent: &[u8], n: usize, lines: &[u8], last: Last, here: Fou
                 path: here.path,
                 from: range.from,
                 to: range.to,
+                plain: here.plain,
             }
         }
         Key::Nothing => last,
@@ -330,10 +424,25 @@ fn put_line(
     }
 }
 
+// Whether the line at a place leaves the baseline whole: it is plain and adds a key, or it starts with #.
+fn stays_whole(lines: &[u8], from: usize, whole: bool, plain: bool, added: usize) -> bool
+    requires { ⌜ from < length (now lines) ⌝ }
+    ensures { λ r. ⌜ (r ≡ true → (whole ≡ true) × (getD (now (lines .entry)) from 0 ≢ 35 → (plain ≡ true) × (added ≡ 1))) ⌝ }
+{
+    if !whole {
+        return false;
+    }
+    if plain {
+        return added == 1;
+    }
+    lines[from] == HASH
+}
+
 // How many stale keys there are, the bytes of their lines, and whether no key of the baseline stands before that of an earlier line, as in one that update
-// wrote.
+// wrote. One that is whole has nothing but plain lines with stale keys, and lines that start with #.
 pub struct Gone {
     pub ordered: bool,
+    pub whole: bool,
     pub count: usize,
     pub bytes: usize,
 }
@@ -343,6 +452,7 @@ pub fn measure(tree: &[u8], lent: &[u8], n: usize, lines: &[u8]) -> Gone
     requires { ⌜ AllStand (now tree) (now lent) n × (isUtf8 (now lines) ≡ true) × (length (now lines) ≤ 33554432) ⌝ }
     ensures { λ r. ⌜
         (r .ordered ≡ true → Unfalling (keysIn (now (lines .entry))) × Sizes (r .count) (r .bytes) (staleIn (now (tree .entry)) (now (lines .entry))))
+        × (r .whole ≡ true → Whole (now (tree .entry)) (now (lines .entry)))
         ⌝ }
 {
     let mut last = Last {
@@ -350,38 +460,129 @@ pub fn measure(tree: &[u8], lent: &[u8], n: usize, lines: &[u8]) -> Gone
         path: 0,
         from: 0,
         to: 0,
+        plain: false,
     };
+    let mut whole = true;
     let mut count: usize = 0;
     let mut bytes: usize = 0;
     let mut from = 0;
     while from < lines.len() {
-        let end = baseline::line_end(lines, from);
-        let to = baseline::trimmed_end(lines, from, end);
-        let here = line_key(lines, last, from, to);
+        let here = line_at(lines, last, from);
         let key = last.key;
         if falls(lines, key, here) {
             return Gone {
                 ordered: false,
+                whole: false,
                 count,
                 bytes,
             };
         }
         let seen = after(tree, lent, n, lines, last, here);
         let size = line_size(tree, lent, n, lines, key, here, seen);
+        whole = stays_whole(lines, from, whole, here.plain, size.count);
         count += size.count;
         bytes += size.bytes;
         last = seen;
-        from = end + 1;
+        from = here.end + 1;
     }
     Gone {
         ordered: true,
+        whole,
         count,
         bytes,
     }
 }
 
-// The lines of the stale keys, where no key falls.
-pub fn put_all(tree: &[u8], lent: &[u8], n: usize, lines: &[u8], out: &mut [u8], at: usize) -> usize
+// Copies a line's field, up to the next tab, which is there: so the text's end need not be asked for.
+fn put_field(out: &mut [u8], at: usize, lines: &[u8], from: usize) -> usize
+    requires { ⌜ (tabFrom (now lines) from < length (now lines)) × (at + bytesBefore tab (drop from (now lines)) ≤ length (now out)) ⌝ }
+    ensures { λ r. ⌜
+        (r ≡ at + bytesBefore tab (drop from (now (lines .entry))))
+        × (now (out .exit) ≡ putAt at (firstField (drop from (now (lines .entry)))) (now (out .entry)))
+        ⌝ }
+{
+    let mut place = from;
+    let mut next = at;
+    while lines[place] != TAB {
+        out[next] = lines[place];
+        place += 1;
+        next += 1;
+    }
+    next
+}
+
+// Where a line ends, at an LF that is there. Few bytes stand before it, so no block is asked.
+fn to_lf(lines: &[u8], from: usize) -> usize
+    requires { ⌜ lineEnd (now lines) from < length (now lines) ⌝ }
+    ensures { λ r. ⌜ r ≡ lineEnd (now (lines .entry)) from ⌝ }
+{
+    let mut at = from;
+    while lines[at] != LF {
+        at += 1;
+    }
+    at
+}
+
+// A line that was put: where the listing goes on, and where the line ends in the baseline.
+struct Put {
+    next: usize,
+    end: usize,
+}
+
+// The line of a key that goes up to the second tab, behind which an LF stands.
+fn put_plain(lines: &[u8], from: usize, out: &mut [u8], at: usize) -> Put
+    requires { ⌜
+        (lineEnd (now lines) (secondTab (now lines) from) < length (now lines))
+        × (at + 3 + (secondTab (now lines) from - from) ≤ length (now out))
+        ⌝ }
+    ensures { λ r. ⌜
+        (r .end ≡ lineEnd (now (lines .entry)) (secondTab (now (lines .entry)) from))
+        × Written at (part from (secondTab (now (lines .entry)) from) (now (lines .entry)) ∷ []) (now (out .entry)) (r .next) (now (out .exit))
+        ⌝ }
+{
+    let path = listing::put_text(out, at, b"  ");
+    let tab = put_field(out, path, lines, from);
+    let name = listing::put_text(out, tab, b" ");
+    let start = from + (tab - path) + 1;
+    let stop = put_field(out, name, lines, start);
+    let next = listing::put_text(out, stop, b"\n");
+    let end = to_lf(lines, start + (stop - name));
+    Put { next, end }
+}
+
+// The line of the key of a line that is plain. One that starts with # has none.
+fn put_entry(lines: &[u8], from: usize, out: &mut [u8], at: usize) -> Put
+    requires { ⌜ (from < length (now lines)) × PlainOrNote (now lines) from × (at + length (keyLines (keysAt (now lines) from)) ≤ length (now out)) ⌝ }
+    ensures { λ r. ⌜
+        (r .end ≡ lineEnd (now (lines .entry)) from)
+        × (r .end ≤ length (now (lines .entry)))
+        × Written at (keysAt (now (lines .entry)) from) (now (out .entry)) (r .next) (now (out .exit))
+        ⌝ }
+{
+    if lines[from] == HASH {
+        let end = baseline::line_end(lines, from);
+        return Put { next: at, end };
+    }
+    put_plain(lines, from, out, at)
+}
+
+// The lines of all keys, where every line is plain or starts with #: the key is copied as it is found.
+fn put_whole(lines: &[u8], out: &mut [u8], at: usize) -> usize
+    requires { ⌜ AllPlain (now lines) × (at + length (keyLines (keysIn (now lines))) ≤ length (now out)) ⌝ }
+    ensures { λ r. ⌜ Written at (keysIn (now (lines .entry))) (now (out .entry)) r (now (out .exit)) ⌝ }
+{
+    let mut next = at;
+    let mut from = 0;
+    while from < lines.len() {
+        let put = put_entry(lines, from, out, next);
+        next = put.next;
+        from = put.end + 1;
+    }
+    next
+}
+
+// The lines of the stale keys, where no key falls: each line is read and its key looked up.
+fn put_each(tree: &[u8], lent: &[u8], n: usize, lines: &[u8], out: &mut [u8], at: usize) -> usize
     requires { ⌜
         AllStand (now tree) (now lent) n
         × Unfalling (keysIn (now lines))
@@ -394,18 +595,41 @@ pub fn put_all(tree: &[u8], lent: &[u8], n: usize, lines: &[u8], out: &mut [u8],
         path: 0,
         from: 0,
         to: 0,
+        plain: false,
     };
     let mut next = at;
     let mut from = 0;
     while from < lines.len() {
-        let end = baseline::line_end(lines, from);
-        let to = baseline::trimmed_end(lines, from, end);
-        let here = line_key(lines, last, from, to);
+        let here = line_at(lines, last, from);
         let key = last.key;
         let seen = after(tree, lent, n, lines, last, here);
         next = put_line(tree, lent, n, lines, key, here, seen, out, next);
         last = seen;
-        from = end + 1;
+        from = here.end + 1;
     }
     next
+}
+
+// The lines of the stale keys, where no key falls.
+pub fn put_all(
+    tree: &[u8],
+    lent: &[u8],
+    n: usize,
+    lines: &[u8],
+    whole: bool,
+    out: &mut [u8],
+    at: usize,
+) -> usize
+    requires { ⌜
+        AllStand (now tree) (now lent) n
+        × Unfalling (keysIn (now lines))
+        × (at + length (keyLines (staleIn (now tree) (now lines))) ≤ length (now out))
+        × (whole ≡ true → Whole (now tree) (now lines))
+        ⌝ }
+    ensures { λ r. ⌜ Written at (staleIn (now (tree .entry)) (now (lines .entry))) (now (out .entry)) r (now (out .exit)) ⌝ }
+{
+    if whole {
+        return put_whole(lines, out, at);
+    }
+    put_each(tree, lent, n, lines, out, at)
 }

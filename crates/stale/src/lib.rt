@@ -9,6 +9,7 @@ ghost use Rattle.text_rules.specs.Utf8.{isUtf8};
 ghost use Rattle.baseline.specs.Ordered.{Unfalling, keysIn};
 ghost use Rattle.in_order.specs.KeyLines.{Sizes, Written, keyLines};
 ghost use Rattle.in_order.specs.StaleKeys.{AllStand, staleIn};
+ghost use Rattle.in_order.specs.Whole.{Whole};
 use in_order::Gone;
 use in_order::Size;
 
@@ -49,6 +50,7 @@ pub fn measure(tree: &[u8], lent: &[u8], n: usize, lines: &[u8]) -> Gone
     ensures { λ r. ⌜
         (r .ordered ≡ true → Unfalling (keysIn (now (lines .entry))))
         × Sizes (r .count) (r .bytes) (staleIn (now (tree .entry)) (now (lines .entry)))
+        × (r .whole ≡ true → Whole (now (tree .entry)) (now (lines .entry)))
         ⌝ }
 {
     let gone = in_order::measure(tree, lent, n, lines);
@@ -58,6 +60,7 @@ pub fn measure(tree: &[u8], lent: &[u8], n: usize, lines: &[u8]) -> Gone
     let size = measure_in_batches(tree, lent, n, lines);
     Gone {
         ordered: false,
+        whole: false,
         count: size.count,
         bytes: size.bytes,
     }
@@ -70,6 +73,7 @@ pub fn put_all(
     n: usize,
     lines: &[u8],
     ordered: bool,
+    whole: bool,
     out: &mut [u8],
     at: usize,
 ) -> usize
@@ -78,11 +82,12 @@ pub fn put_all(
         × (length (now lines) ≤ 33554432)
         × (at + length (keyLines (staleIn (now tree) (now lines))) ≤ length (now out))
         × (ordered ≡ true → Unfalling (keysIn (now lines)))
+        × (whole ≡ true → Whole (now tree) (now lines))
         ⌝ }
     ensures { λ r. ⌜ Written at (staleIn (now (tree .entry)) (now (lines .entry))) (now (out .entry)) r (now (out .exit)) ⌝ }
 {
     if ordered {
-        return in_order::put_all(tree, lent, n, lines, out, at);
+        return in_order::put_all(tree, lent, n, lines, whole, out, at);
     }
     put_in_batches(tree, lent, n, lines, out, at)
 }

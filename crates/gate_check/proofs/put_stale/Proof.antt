@@ -24,7 +24,7 @@ put-stale-text-requires c κs =
     let s = c .before .before .before .before .before .before in
     let a = s .args in
     let some : 1 ≤ a .count = omega (arith, c .before .if1 .left) in
-    (s .pre .0, s .pre .1, some, omega (arith, s .pre .2, stale-some (a .count) (staleIn (now (a .tree)) (now (a .lines))) (s .pre .1) some), s .pre .3, s .pre .4)
+    (s .pre .0, s .pre .1, some, omega (arith, s .pre .2, stale-some (a .count) (staleIn (now (a .tree)) (now (a .lines))) (s .pre .1) some), s .pre .3, s .pre .4, s .pre .5)
 
 returns-2 : tie.Need-returns-2
 returns-2 c =

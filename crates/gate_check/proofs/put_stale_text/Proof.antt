@@ -13,7 +13,7 @@ use Rattle.gate_check.proofs.put_stale_text.Tie as tie
 
 put-all-requires : tie.Need-put-all-requires
 put-all-requires c κs =
-    let s = c .before .before .before .before .before .before .before .before .before .before .before .before .before .before in (s .pre .0, s .pre .4, omega arith, s .pre .5)
+    let s = c .before .before .before .before .before .before .before .before .before .before .before .before .before .before in (s .pre .0, s .pre .4, omega arith, s .pre .5, s .pre .6)
 
 returns : tie.Need-returns
 returns c =

@@ -68,7 +68,7 @@ put-stale-requires c κs =
     let es = entriesOfLines (now (a .lines)) in
     let fs = functionsOf gate (now (a .tree)) in
     let bytes = measured-length L es fs _ _ _ _ (gone .measure .ensures .1 .0) (gone .measure .ensures .1 .1) (worse .measure2 .ensures .0) (worse .measure2 .ensures .1) in
-    (s .pre .0, gone .measure .ensures .1 .0, omega (arith, test .if2 .left, length-of .stale-length .ensures .0, verdict .verdict-length .ensures .0, bytes, both-length L es fs), s .pre .2, gone .measure .ensures .0)
+    (s .pre .0, gone .measure .ensures .1 .0, omega (arith, test .if2 .left, length-of .stale-length .ensures .0, verdict .verdict-length .ensures .0, bytes, both-length L es fs), s .pre .2, gone .measure .ensures .0, gone .measure .ensures .2)
 
 put-verdict-requires : tie.Need-put-verdict-requires
 put-verdict-requires c κs =

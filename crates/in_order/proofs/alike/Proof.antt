@@ -12,10 +12,10 @@ use Rattle.in_order.proofs.alike.Statement.{statement}
 use Rattle.in_order.proofs.alike.Tie as tie
 
 abbrev Inv-loop : tie.InvT-loop
-Inv-loop s t at all₀ i₀ all i = (i ≤ 8) × (all ≡ true → common (drop at s) (drop at t) ≡ i + common (drop (at + i) s) (drop (at + i) t))
+Inv-loop s t at n all₀ i₀ all i = (i ≤ n) × (all ≡ true → common (drop at s) (drop at t) ≡ i + common (drop (at + i) s) (drop (at + i) t))
 
 abbrev μ-loop : tie.MeasureT-loop
-μ-loop s t at all₀ i₀ all i = 8 - i
+μ-loop s t at n all₀ i₀ all i = n - i
 
 loop-holds : tie.Need-loop-holds Inv-loop μ-loop
 loop-holds c =
@@ -40,7 +40,7 @@ returns : tie.Need-returns Inv-loop μ-loop
 returns c e =
     let l = c .before in
     let a = l .before .args in
-    let all : l .loop .i ≡ 8 = omega arith in
+    let all : l .loop .i ≡ a .n = omega arith in
     l .loop .inv .1 e ∙ ap (λ (j : ℕ). j + common (drop (a .at + j) (now (a .s))) (drop (a .at + j) (now (a .t)))) all
 
 pub alike-spec : {M : Type 1} → statement M

@@ -1,115 +1,29 @@
--- `in_order::put_all` meets its contract: what the lines still to come add, put into what the output has become, makes the same as all stale keys put into
--- what it was.
-use Prim.Native.Nat.{_+_, _-_, _≤_}
-use mathlib.Core.Path.{_≡_, refl, ap, sym, _∙_}
-use native.Mathlib.Omega.{arith}
+-- `in_order::put_all` meets its contract: where the baseline is whole, all its keys are the stale ones.
+use Prim.Native.Nat.{_+_, _≤_}
+use mathlib.Core.Path.{subst}
 use lib.ListN.{length}
 use denote.Ref.{now}
 use borrow.Author.Needs.{needs}
-use Rattle.text_rules.specs.Bytes.{putAt}
-use Rattle.in_order.specs.InOrder.{addedIn, latest}
+use Rattle.baseline.specs.Ordered.{keysIn}
 use Rattle.in_order.specs.KeyLines.{keyLines}
-use Rattle.in_order.specs.Paths.{Knows, knows-start}
 use Rattle.in_order.specs.StaleKeys.{staleIn}
-use Rattle.in_order.proofs.Passing.{bytes-step, come-all, come-end, come-line, none-bytes, put-end, put-step, toCome, written-length}
+use Rattle.in_order.proofs.Passing.{written-same}
 use Rattle.in_order.proofs.put_all.Statement.{statement}
 use Rattle.in_order.proofs.put_all.Tie as tie
 
-abbrev Inv-loop : tie.InvT-loop
-Inv-loop tree lent n lines out₀ at last₀ next₀ from₀ out last next from =
-    Knows tree lines last
-    × (length out ≡ length out₀)
-    × (next + length (keyLines (toCome tree lines (last .key) from)) ≡ at + length (keyLines (staleIn tree lines)))
-    × (putAt next (keyLines (toCome tree lines (last .key) from)) out ≡ putAt at (keyLines (staleIn tree lines)) out₀)
+put-whole-requires : tie.Need-put-whole-requires
+put-whole-requires c κs =
+    let s = c .before .before .before .before .before .before in
+    let w = s .pre .3 (c .before .if1 .taken) in
+    (w .all-plain, subst (λ ks. s .args .at + length (keyLines ks) ≤ length (now (s .args .out))) (w .all-stale) (s .pre .2))
 
-abbrev μ-loop : tie.MeasureT-loop
-μ-loop tree lent n lines out₀ at last₀ next₀ from₀ out last next from = length lines - from
-
-loop-holds : tie.Need-loop-holds Inv-loop μ-loop
-loop-holds c =
-    let s = c .before .before .before .before in
-    let a = s .args in
-    let all = come-all (now (a .tree)) (now (a .lines)) (s .pre .1) in
-    (knows-start _ _, refl, ap (λ ks. a .at + length (keyLines ks)) all, ap (λ ks. putAt (a .at) (keyLines ks) (now (a .out))) all)
-
-line-key-requires : tie.Need-line-key-requires Inv-loop μ-loop
-line-key-requires c κs =
-    let known = c .before .before .before .loop .inv .0 in
-    (known .inside, known .path-is, c .trimmed-end .ensures .1, omega (arith, c .trimmed-end .ensures .2, c .before .line-end .ensures .2))
-
-after-requires : tie.Need-after-requires Inv-loop μ-loop
-after-requires c κs =
-    let l = c .before .before .before .before in
-    (l .before .before .before .before .before .pre .0, l .loop .inv .0, c .line-key .ensures .1)
-
-put-line-requires : tie.Need-put-line-requires Inv-loop μ-loop
-put-line-requires c κs =
-    let seen = c .before in
-    let k = seen .before in
-    let trim = k .before in
-    let ends = trim .before in
-    let l = ends .before .before in
-    let s = l .before .before .before .before .before in
-    let tree = now (s .args .tree) in
-    let lines = now (s .args .lines) in
-    let last = l .loop .last .key in
-    let here = k .line-key .result .key in
-    let step = come-line tree lines last here (latest last here) (l .loop .from) (ends .line-end .result) (trim .trimmed-end .result) (ends .line-end .ensures .0) (trim .trimmed-end .ensures .0) (k .line-key .ensures .0) refl in
-    let bytes = bytes-step (toCome tree lines last (l .loop .from)) (addedIn tree lines last here) (toCome tree lines (latest last here) (ends .line-end .result + 1)) step in
-    (s .pre .0, l .loop .inv .0 .inside, k .line-key .ensures .1, omega (arith, bytes, l .loop .inv .1, l .loop .inv .2, s .pre .2), seen .after .ensures .1, seen .after .ensures .0)
-
-add-from : tie.Need-add-from Inv-loop μ-loop
-add-from c =
-    let ends = c .before .before .before .before .before .before .before in
-    let s = ends .before .before .before .before .before .before .before in
-    record { fits = omega (arith, ends .line-end .ensures .2, s .good) }
-
-loop-less : tie.Need-loop-less Inv-loop μ-loop
-loop-less c =
-    let ends = c .before .before .before .before .before .before .before in
-    omega (arith, ends .line-end .ensures .1, ends .before .loop-test .taken)
-
-loop-again : tie.Need-loop-again Inv-loop μ-loop
-loop-again c =
-    let put = c .before .before in
-    let seen = put .before .before in
-    let k = seen .before in
-    let trim = k .before in
-    let ends = trim .before in
-    let l = ends .before .before in
-    let s = l .before .before .before .before .before in
-    let tree = now (s .args .tree) in
-    let lines = now (s .args .lines) in
-    let last = l .loop .last .key in
-    let here = k .line-key .result .key in
-    let end = ends .line-end .result in
-    let wrote = put .put-line .ensures in
-    let step = come-line tree lines last here (seen .after .result .key) (l .loop .from) end (trim .trimmed-end .result) (ends .line-end .ensures .0) (trim .trimmed-end .ensures .0) (k .line-key .ensures .0) (seen .after .ensures .0) in
-    let all = toCome tree lines last (l .loop .from) in
-    let mine = addedIn tree lines last here in
-    let rest = toCome tree lines (seen .after .result .key) (end + 1) in
-    let bytes = bytes-step all mine rest step in
-    let room : l .loop .next + length (keyLines all) ≤ length (l .loop .out) = omega (arith, l .loop .inv .1, l .loop .inv .2, s .pre .2) in (
-      seen .after .ensures .1,
-      written-length (l .loop .next) _ mine (l .loop .out) _ wrote (omega arith) ∙ l .loop .inv .1,
-      omega (arith, l .loop .inv .2, wrote .0),
-      put-step all mine rest step (l .loop .next) _ (l .loop .out) _ wrote room ∙ l .loop .inv .3,
-    )
-
-same-length : tie.Need-same-length Inv-loop μ-loop
-same-length c = c .before .loop .inv .1
-
-returns : tie.Need-returns Inv-loop μ-loop
+returns : tie.Need-returns
 returns c =
-    let l = c .before in
-    let s = l .before .before .before .before .before in
-    let tree = now (s .args .tree) in
-    let lines = now (s .args .lines) in
-    let here = toCome tree lines (l .loop .last .key) (l .loop .from) in
-    let none = come-end tree lines (l .loop .last .key) (l .loop .from) (c .loop-test .left) in
-    (omega (arith, l .loop .inv .2, none-bytes here none), sym (put-end (l .loop .next) here (l .loop .out) none) ∙ l .loop .inv .3)
+    let put = c .before .before in
+    let test = put .before .before in
+    let s = test .before .before .before .before .before in
+    let a = s .args in
+    written-same (a .at) (now (a .out)) (staleIn (now (a .tree)) (now (a .lines))) (keysIn (now (a .lines))) (s .pre .3 (test .if1 .taken) .all-stale) (put .put-whole .ensures)
 
 pub put-all-spec : {M : Type 1} → statement M
-put-all-spec =
-    tie.close
-    (tie.spec Inv-loop μ-loop loop-holds (λ c κs. search needs) (λ c κs. search needs) line-key-requires after-requires put-line-requires add-from loop-less loop-again same-length returns)
+put-all-spec = tie.close (tie.spec put-whole-requires (λ c. search needs) returns (λ c κs. search needs) (λ c. search needs) (λ c. search needs))
