@@ -178,7 +178,7 @@ fn rows(real: &Real) -> Vec<(Input<'_>, Call)> {
     for piece in ["fn a(", "fn a(){", "#[cfg(test)]{", "fn a(){{}", "fn a()[", "fn a()<", "fn a()[{", "<fn a()<[{}]>>"] {
         rows.push((Input::Unclosed(piece), Call::Scan));
     }
-    for (front, back) in [("fn a(", ")"), ("[", "fn a()]"), ("fn a()[", "]"), ("fn a()<", ">"), ("fn a([", "])")] {
+    for (front, back) in [("fn a(", ")"), ("[", "fn a()]"), ("fn a()[", "]"), ("fn a()<", ">"), ("fn a([", "])"), ("fn a(fn b()[", "])")] {
         rows.push((Input::Nested(front, back), Call::Scan));
     }
     for (front, back) in [("fn a()<", ">"), ("fn a()[", "]")] {
@@ -186,6 +186,7 @@ fn rows(real: &Real) -> Vec<(Input<'_>, Call)> {
     }
     rows.push((Input::Behind("fn a()[fn a()]", "", "[[{}]]"), Call::Scan));
     rows.push((Input::Behind("<fn a()<[{]>>[fn a()<{>]", "", "}"), Call::Scan));
+    rows.push((Input::Behind("fn a() ", "", "{ {}"), Call::Scan));
     rows
 }
 
