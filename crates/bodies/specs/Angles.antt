@@ -3,12 +3,11 @@
 use Prim.Native.Nat.{ℕ, zero, suc, _+_, _-_, _≤_, _<_}
 use mathlib.Core.Path.{_≡_, refl, ap, sym, _∙_}
 use mathlib.Core.Logic.{_≢_, inl, inr}
-use mathlib.Core.Bool.{false}
 use mathlib.Core.List.{List}
 use native.Mathlib.Numerals.{add-one, sub-one}
 use native.Mathlib.Omega.{arith}
 use borrow.Author.Tests.{eq-eqb, le-leb, leb-false, leb-true, lt-leb, ne-eqb}
-use lib.Dec.{eqb, leb}
+use lib.Dec.{leb}
 use lib.ListN.{length, getD, set, length-set}
 use lib.Seq.{getD-set-other, getD-set-same}
 use Rattle.text_rules.specs.Bytes.{if_then_else_}
@@ -39,10 +38,22 @@ pub record Stack (counts sizes : List ℕ) (height next i : ℕ) : Type 0 where
   pub some : (k : ℕ) → k < height → 0 < getD sizes k 0
   pub few : (k : ℕ) → k < height → getD sizes k 0 ≤ i
 
--- what a byte makes of the groups
-pub record Turned (b next i : ℕ) (counts sizes : List ℕ) (height : ℕ) (counts′ sizes′ : List ℕ) (height′ : ℕ) : Type 0 where
-  pub stack : Stack counts′ sizes′ height′ next (i + 1)
-  pub depth : (j : ℕ) → j < next → angleAfter b (above counts sizes height j) ≡ above counts′ sizes′ height′ j
+-- a depth with so many brackets more, and with so many closed
+abbrev pub more : ℕ → ℕ → ℕ
+more n depth = depth + n
+
+abbrev pub less : ℕ → ℕ → ℕ
+less n depth = depth - n
+
+-- the groups at a place, where each depth has changed in one way
+pub record Turned (f : ℕ → ℕ) (next i : ℕ) (counts sizes : List ℕ) (height : ℕ) (counts′ sizes′ : List ℕ) (height′ : ℕ) : Type 0 where
+  pub stack : Stack counts′ sizes′ height′ next i
+  pub depth : (j : ℕ) → j < next → f (above counts sizes height j) ≡ above counts′ sizes′ height′ j
+
+-- the groups while brackets are closed, of which some are left
+pub record Closing (n left next i : ℕ) (counts sizes : List ℕ) (height : ℕ) (sizes′ : List ℕ) (height′ : ℕ) : Type 0 where
+  pub stack : Stack counts sizes′ height′ next i
+  pub depth : (j : ℕ) → j < next → above counts sizes height j - n ≡ above counts sizes′ height′ j - left
 
 pub empty-stack : (counts sizes : List ℕ) (i : ℕ) → length counts ≡ 2049 → length sizes ≡ 2049 → Stack counts sizes 0 0 i
 empty-stack counts sizes i h z =
@@ -124,14 +135,31 @@ module _ (counts sizes : List ℕ) where
   stack-next height next n l s =
       record { room = s .room; sizes-room = s .sizes-room; most = omega arith; tall = (let r = s .tall in omega (arith, r)); rises = s .rises; low = s .low; begun = λ k h. (let r = s .begun k h in omega (arith, r)); some = s .some; few = s .few }
 
-module _ (b next i : ℕ) (counts sizes : List ℕ) (height : ℕ) (s : Stack counts sizes height next i) where
-  -- a < behind a search that is behind the last group begins a group
-  module _ (e : b ≡ angleOpen) (new : 0 < height → getD counts (height - 1) 0 ≢ next) where
+-- of each search that has begun the last group's brackets are open, where none has begun since that group
+pub above-least : (counts sizes : List ℕ) (k height next j : ℕ) → height ≡ suc k → getD counts k 0 ≡ next → j < next → getD sizes k 0 ≤ above counts sizes height j
+above-least counts sizes k height next j last n h = rw last (let a = above-some counts sizes k j (omega (arith, n, h)) in omega (arith, a))
+
+module _ (next i : ℕ) (counts sizes : List ℕ) (height : ℕ) (s : Stack counts sizes height next i) where
+  -- the groups at a later place
+  pub stack-later : (i′ : ℕ) → i ≤ i′ → Stack counts sizes height next i′
+  stack-later i′ l =
+      record { room = s .room; sizes-room = s .sizes-room; most = s .most; tall = s .tall; rises = s .rises; low = s .low; begun = s .begun; some = s .some; few = λ k h. (let r = s .few k h in omega (arith, r, l)) }
+
+  pub turned-same : (f : ℕ → ℕ) (i′ : ℕ) → i ≤ i′ → ((d : ℕ) → f d ≡ d) → Turned f next i′ counts sizes height counts sizes height
+  turned-same f i′ l e = record { stack = stack-later i′ l; depth = λ j h. e (above counts sizes height j) }
+
+  -- where none is open none is closed
+  pub turned-empty : (n : ℕ) → height ≡ 0 → Turned (less n) next i counts sizes height counts sizes height
+  unfolding above
+  turned-empty n z = record { stack = s; depth = λ j h. rw z (omega arith) }
+
+  -- brackets behind a search that is behind the last group are a group
+  module _ (n : ℕ) (any : 0 < n) (new : 0 < height → getD counts (height - 1) 0 ≢ next) where
     abbrev counts′ : List ℕ
     counts′ = set counts height next
 
     abbrev sizes′ : List ℕ
-    sizes′ = set sizes height 1
+    sizes′ = set sizes height n
 
     all-before : (k : ℕ) → k < height → getD counts k 0 < next
     all-before k h =
@@ -158,45 +186,44 @@ module _ (b next i : ℕ) (counts sizes : List ℕ) (height : ℕ) (s : Stack co
     top : getD counts′ height 0 ≡ next
     top = getD-set-same counts height next 0 (omega (arith, s .room, s .most, height-low))
 
-    top-size : getD sizes′ height 0 ≡ 1
-    top-size = getD-set-same sizes height 1 0 (omega (arith, s .sizes-room, s .most, height-low))
+    top-size : getD sizes′ height 0 ≡ n
+    top-size = getD-set-same sizes height n 0 (omega (arith, s .sizes-room, s .most, height-low))
 
     kept : (k : ℕ) → k < height → getD counts′ k 0 ≡ getD counts k 0
     kept k h = getD-set-other counts height k next 0 (λ z. omega (arith, z, h))
 
     kept-size : (k : ℕ) → k < height → getD sizes′ k 0 ≡ getD sizes k 0
-    kept-size k h = getD-set-other sizes height k 1 0 (λ z. omega (arith, z, h))
+    kept-size k h = getD-set-other sizes height k n 0 (λ z. omega (arith, z, h))
 
     -- what holds of the groups and of the one on top holds of all
-    each : (P : ℕ → ℕ → ℕ → Type 0) → ((k : ℕ) → k < height → P k (getD counts k 0) (getD sizes k 0)) → P height next 1 → (k : ℕ) → k < height + 1 → P k (getD counts′ k 0) (getD sizes′ k 0)
+    each : (P : ℕ → ℕ → ℕ → Type 0) → ((k : ℕ) → k < height → P k (getD counts k 0) (getD sizes k 0)) → P height next n → (k : ℕ) → k < height + 1 → P k (getD counts′ k 0) (getD sizes′ k 0)
     each P all one k h =
         elim (same-or-not k height) [
           | inl e ↦ rw (e, top, top-size) one
           | inr e ↦ (let l : k < height = omega (arith, e, h) in rw (kept k l, kept-size k l) (all k l))
         ]
 
-    pub turned-push : Turned b next i counts sizes height (set counts height next) (set sizes height 1) (height + 1)
-    unfolding angleAfter
+    pub turned-push : Turned (more n) next (i + n) counts sizes height (set counts height next) (set sizes height n) (height + 1)
     turned-push =
         record {
           stack =
               record {
                 room = length-set counts height next ∙ s .room;
-                sizes-room = length-set sizes height 1 ∙ s .sizes-room;
+                sizes-room = length-set sizes height n ∙ s .sizes-room;
                 most = s .most;
                 tall = omega (arith, height-low);
                 rises = rises;
                 low = each (λ k c z. k ≤ c) (s .low) height-low;
                 begun = each (λ k c z. c ≤ next) (s .begun) (omega arith);
-                some = each (λ k c z. 0 < z) (s .some) (omega arith);
-                few = each (λ k c z. z ≤ i + 1) (λ k h. (let r = s .few k h in omega (arith, r))) (omega arith);
+                some = each (λ k c z. 0 < z) (s .some) any;
+                few = each (λ k c z. z ≤ i + n) (λ k h. (let r = s .few k h in omega (arith, r))) (omega arith);
               };
           depth =
-              λ j h. rw (eq-eqb b angleOpen e)
-              (let a = above-some counts′ sizes′ height j (omega (arith, h, top)) in
+              λ j h.
+              let a = above-some counts′ sizes′ height j (omega (arith, h, top)) in
               let c = above-same counts sizes counts′ sizes′ height j kept kept-size in
               let d : above counts′ sizes′ (height + 1) j ≡ above counts′ sizes′ (suc height) j = ap (λ x. above counts′ sizes′ x j) (add-one height) in
-              omega (arith, a, c, d, top-size));
+              omega (arith, a, c, d, top-size);
         } where
           rises : (j k : ℕ) → j < k → k < height + 1 → getD counts′ j 0 < getD counts′ k 0
           rises j k g h =
@@ -208,11 +235,8 @@ module _ (b next i : ℕ) (counts sizes : List ℕ) (height : ℕ) (s : Stack co
                     omega (arith, kept j q, kept k r, s .rises j k g r))
               ]
 
-  close-is : b ≡ angleClose → eqb b angleOpen ≡ false
-  close-is e = ne-eqb b angleOpen (λ o. omega (arith, e, o))
-
   -- the size of the last group changes
-  module _ (k size : ℕ) (last : height ≡ suc k) (some : 0 < size) (few : size ≤ i + 1) where
+  module _ (k size i′ : ℕ) (last : height ≡ suc k) (some : 0 < size) (few : size ≤ i′) (later : i ≤ i′) where
     abbrev resized : List ℕ
     resized = set sizes k size
 
@@ -225,7 +249,7 @@ module _ (b next i : ℕ) (counts sizes : List ℕ) (height : ℕ) (s : Stack co
     resized-other : (j : ℕ) → j ≢ k → getD resized j 0 ≡ getD sizes j 0
     resized-other j n = getD-set-other sizes k j size 0 n
 
-    resized-stack : Stack counts (set sizes k size) height next (i + 1)
+    resized-stack : Stack counts (set sizes k size) height next i′
     resized-stack =
         record {
           room = s .room;
@@ -236,7 +260,7 @@ module _ (b next i : ℕ) (counts sizes : List ℕ) (height : ℕ) (s : Stack co
           low = s .low;
           begun = s .begun;
           some = λ j h. elim (same-or-not j k) [ inl e ↦ rw (e, resized-top) some | inr e ↦ rw (resized-other j e) (s .some j h) ];
-          few = λ j h. elim (same-or-not j k) [ inl e ↦ rw (e, resized-top) few | inr e ↦ rw (resized-other j e) (let r = s .few j h in omega (arith, r)) ];
+          few = λ j h. elim (same-or-not j k) [ inl e ↦ rw (e, resized-top) few | inr e ↦ rw (resized-other j e) (let r = s .few j h in omega (arith, r, later)) ];
         }
 
     -- inside the last group the depth changes with the size
@@ -252,40 +276,36 @@ module _ (b next i : ℕ) (counts sizes : List ℕ) (height : ℕ) (s : Stack co
     resized-behind j h = rw last (above-none counts sizes k j h, above-none counts resized k j h)
 
   module _ (k : ℕ) (last : height ≡ suc k) where
-    -- a < with no search begun since the last one
-    pub turned-more : b ≡ angleOpen → getD counts k 0 ≡ next → Turned b next i counts sizes height counts (set sizes k (getD sizes k 0 + 1)) height
-    unfolding angleAfter
-    turned-more e n =
+    -- brackets with no search begun since the last group belong to it
+    pub turned-more : (n : ℕ) → getD counts k 0 ≡ next → Turned (more n) next (i + n) counts sizes height counts (set sizes k (getD sizes k 0 + n)) height
+    turned-more n e =
+        let some = s .some k (omega (arith, last)) in
+        let few = s .few k (omega (arith, last)) in
+        let size-some : 0 < getD sizes k 0 + n = omega (arith, some) in
+        let size-few : getD sizes k 0 + n ≤ i + n = omega (arith, few) in
         record {
-          stack = resized-stack k (getD sizes k 0 + 1) last (omega arith) size-few;
-          depth = λ j h. rw (eq-eqb b angleOpen e) (let a = resized-inside k (getD sizes k 0 + 1) last (omega arith) size-few j (omega (arith, h, n)) in omega (arith, a));
-        } where
-          size-few : getD sizes k 0 + 1 ≤ i + 1
-          size-few = let r = s .few k (omega (arith, last)) in omega (arith, r)
+          stack = resized-stack k (getD sizes k 0 + n) (i + n) last size-some size-few (omega arith);
+          depth = λ j h. let a = resized-inside k (getD sizes k 0 + n) (i + n) last size-some size-few (omega arith) j (omega (arith, h, e)) in omega (arith, a);
+        }
 
-    -- a > closes one of the last group
-    pub turned-less : b ≡ angleClose → getD sizes k 0 ≢ 1 → Turned b next i counts sizes height counts (set sizes k (getD sizes k 0 - 1)) height
-    unfolding angleAfter
-    turned-less e n =
+    -- fewer than the last group has are closed
+    pub turned-less : (n : ℕ) → n < getD sizes k 0 → Turned (less n) next i counts sizes height counts (set sizes k (getD sizes k 0 - n)) height
+    turned-less n l =
+        let few = s .few k (omega (arith, last)) in
+        let size-some : 0 < getD sizes k 0 - n = omega (arith, l) in
+        let size-few : getD sizes k 0 - n ≤ i = omega (arith, few) in
         record {
-          stack = resized-stack k (getD sizes k 0 - 1) last size-some size-few;
+          stack = resized-stack k (getD sizes k 0 - n) i last size-some size-few (omega arith);
           depth =
-              λ j h. rw (close-is e, eq-eqb b angleClose e, sym (sub-one (above counts sizes height j)))
-              (elim (whether (leb (getD counts k 0) j)) [
-                | inl t ↦ (let a = resized-behind k (getD sizes k 0 - 1) last size-some size-few j (leb-true _ _ t) in omega (arith, a .0, a .1))
-                | inr t ↦ (let a = resized-inside k (getD sizes k 0 - 1) last size-some size-few j (leb-false _ _ t) in omega (arith, a, size-some))
-              ]);
-        } where
-          size-some : 0 < getD sizes k 0 - 1
-          size-some = let r = s .some k (omega (arith, last)) in omega (arith, r, n)
+              λ j h. elim (whether (leb (getD counts k 0) j)) [
+                | inl t ↦ (let a = resized-behind k (getD sizes k 0 - n) i last size-some size-few (omega arith) j (leb-true _ _ t) in omega (arith, a .0, a .1))
+                | inr t ↦ (let a = resized-inside k (getD sizes k 0 - n) i last size-some size-few (omega arith) j (leb-false _ _ t) in omega (arith, a, l))
+              ];
+        }
 
-          size-few : getD sizes k 0 - 1 ≤ i + 1
-          size-few = let r = s .few k (omega (arith, last)) in omega (arith, r)
-
-    -- and takes the group where it is its only one
-    pub turned-pop : b ≡ angleClose → getD sizes k 0 ≡ 1 → Turned b next i counts sizes height counts sizes k
-    unfolding angleAfter
-    turned-pop e n =
+    -- the last group is closed
+    pub turned-pop : Turned (less (getD sizes k 0)) next i counts sizes height counts sizes k
+    turned-pop =
         record {
           stack =
               record {
@@ -297,30 +317,53 @@ module _ (b next i : ℕ) (counts sizes : List ℕ) (height : ℕ) (s : Stack co
                 low = λ l h. s .low l (omega (arith, h, last));
                 begun = λ l h. s .begun l (omega (arith, h, last));
                 some = λ l h. s .some l (omega (arith, h, last));
-                few = λ l h. (let r = s .few l (omega (arith, h, last)) in omega (arith, r));
+                few = λ l h. s .few l (omega (arith, h, last));
               };
           depth =
-              λ j h. rw (close-is e, eq-eqb b angleClose e, sym (sub-one (above counts sizes height j)), last)
+              λ j h. rw last
               (elim (whether (leb (getD counts k 0) j)) [
                 | inl t ↦
                     (let t′ = leb-true (getD counts k 0) j t in
                     let a = above-none counts sizes k j t′ in
                     let z = above-low counts sizes k j (λ l h. (let r = s .rises l k h (omega (arith, last)) in omega (arith, r, t′))) in
                     omega (arith, a, z))
-                | inr t ↦ (let a = above-some counts sizes k j (leb-false _ _ t) in omega (arith, a, n))
+                | inr t ↦ (let a = above-some counts sizes k j (leb-false _ _ t) in omega (arith, a))
               ]);
         }
 
-  same-stack : Stack counts sizes height next (i + 1)
-  same-stack =
-      record { room = s .room; sizes-room = s .sizes-room; most = s .most; tall = s .tall; rises = s .rises; low = s .low; begun = s .begun; some = s .some; few = λ k h. (let r = s .few k h in omega (arith, r)) }
+module _ (f g : ℕ → ℕ) (next i i′ : ℕ) (counts sizes : List ℕ) (height : ℕ) (counts′ sizes′ : List ℕ) (height′ : ℕ) (t : Turned f next i counts sizes height counts′ sizes′ height′) where
+  -- the same at a later place, told by another function
+  pub turned-as : i ≤ i′ → ((d : ℕ) → g d ≡ f d) → Turned g next i′ counts sizes height counts′ sizes′ height′
+  turned-as l e =
+      record { stack = stack-later next i counts′ sizes′ height′ (t .stack) i′ l; depth = λ j h. e (above counts sizes height j) ∙ t .depth j h }
 
-  -- a > where none is open changes nothing
-  pub turned-empty : b ≡ angleClose → height ≡ 0 → Turned b next i counts sizes height counts sizes height
-  unfolding angleAfter above
-  turned-empty e z = record { stack = same-stack; depth = λ j h. rw (close-is e, eq-eqb b angleClose e, z) }
+  -- one change after another
+  pub turned-then : (counts″ sizes″ : List ℕ) (height″ : ℕ) → Turned g next i′ counts′ sizes′ height′ counts″ sizes″ height″ → Turned (λ d. g (f d)) next i′ counts sizes height counts″ sizes″ height″
+  turned-then counts″ sizes″ height″ u = record { stack = u .stack; depth = λ j h. ap g (t .depth j h) ∙ u .depth j h }
 
-  -- nor does any other byte
-  pub turned-other : b ≢ angleOpen → b ≢ angleClose → Turned b next i counts sizes height counts sizes height
-  unfolding angleAfter
-  turned-other o c = record { stack = same-stack; depth = λ j h. rw (ne-eqb b angleOpen o, ne-eqb b angleClose c) }
+-- what a byte makes of a depth
+pub angle-open : (b : ℕ) → b ≡ angleOpen → (d : ℕ) → angleAfter b d ≡ more 1 d
+unfolding angleAfter
+angle-open b e d = rw (eq-eqb b angleOpen e) (omega arith)
+
+pub angle-close : (b : ℕ) → b ≢ angleOpen → b ≡ angleClose → (d : ℕ) → angleAfter b d ≡ less 1 d
+unfolding angleAfter
+angle-close b o e d = rw (ne-eqb b angleOpen o, eq-eqb b angleClose e, sym (sub-one d))
+
+pub angle-other : (b : ℕ) → b ≢ angleOpen → b ≢ angleClose → (d : ℕ) → angleAfter b d ≡ d
+unfolding angleAfter
+angle-other b o c d = rw (ne-eqb b angleOpen o, ne-eqb b angleClose c)
+
+pub closing-all : (n next i : ℕ) (counts sizes : List ℕ) (height : ℕ) → Stack counts sizes height next i → Closing n n next i counts sizes height sizes height
+closing-all n next i counts sizes height s = record { stack = s; depth = λ j h. refl }
+
+module _ (n left next i : ℕ) (counts sizes : List ℕ) (height : ℕ) (sizes′ : List ℕ) (height′ : ℕ) (c : Closing n left next i counts sizes height sizes′ height′) where
+  -- the last group is closed
+  pub closing-group : (k : ℕ) → height′ ≡ suc k → getD sizes′ k 0 ≤ left → Closing n (left - getD sizes′ k 0) next i counts sizes height sizes′ k
+  closing-group k last l =
+      let t = turned-pop next i counts sizes′ height′ (c .stack) k last in
+      record { stack = t .stack; depth = λ j h. (let d = c .depth j h in let e = t .depth j h in omega (arith, d, e, l)) }
+
+  -- and what is left
+  pub closing-rest : (sizes″ : List ℕ) (height″ : ℕ) → Turned (less left) next i counts sizes′ height′ counts sizes″ height″ → Turned (less n) next i counts sizes height counts sizes″ height″
+  closing-rest sizes″ height″ t = record { stack = t .stack; depth = λ j h. c .depth j h ∙ t .depth j h }

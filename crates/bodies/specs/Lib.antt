@@ -2,6 +2,7 @@
 pub mod Angles
 pub mod Bodies
 pub mod Chain
+pub mod Crossing
 pub mod Numbers
 pub mod Quiet
 pub mod Settling

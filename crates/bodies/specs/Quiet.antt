@@ -8,7 +8,8 @@ use borrow.Author.Tests.{ne-eqb}
 use lib.ListN.{length, getD}
 use Rattle.text_rules.specs.Classes.{angleClose, angleOpen, braceOpen, semicolon, squareClose, squareOpen}
 use Rattle.text_rules.specs.Search.{countAfter}
-use Rattle.bodies.specs.Angles.{turned-other}
+use Rattle.source_rules.specs.Finding.{angleAfter}
+use Rattle.bodies.specs.Angles.{angle-other, turned-same}
 use Rattle.bodies.specs.Chain.{same-or-not}
 use Rattle.bodies.specs.Walking.{Ends, Kept, ended-other, kept-further, levelOf}
 use Rattle.bodies.specs.declared.Walk.{Walk}
@@ -24,7 +25,7 @@ quiet-more s from at q b i l h = elim (same-or-not i at) [ inl e ↦ subst (λ x
 
 -- the walk at another place
 abbrev pub moved : Walk → ℕ → Walk
-moved w at = record { at = at; next = w .next; height = w .height; opened = w .opened; closed = w .closed; pending = w .pending }
+moved w at = record { at = at; next = w .next; height = w .height; opened = w .opened; closed = w .closed; pending = w .pending; low = w .low; high = w .high }
 
 -- the walk behind quiet bytes
 abbrev pub Skips : List ℕ → (w v : Walk) → Type 0
@@ -40,7 +41,7 @@ module _ (s starts m links heads counts sizes : List ℕ) where
       let b = getD s (w .at) 0 in
       kept-further s starts w m links heads counts sizes k h m heads (k .fits)
       (ended-other (levelOf s starts) (Ends w counts (levelOf s starts)) b (w .at) m links heads (q .4) (q .5) (k .chain)) counts sizes (w .height)
-      (turned-other b (w .next) (w .at) counts sizes (w .height) (k .stack) (q .0) (q .1)) (w .opened) (w .closed) (w .pending)
+      (turned-same (w .next) (w .at) counts sizes (w .height) (k .stack) (angleAfter b) (w .at + 1) (omega arith) (angle-other b (q .0) (q .1))) (w .opened) (w .closed) (w .pending)
       (count-quiet squareOpen b (w .opened) (q .2)) (count-quiet squareClose b (w .closed) (q .3)) (omega arith)
 
   quiet-bytes : (w : Walk) (n : ℕ) → Kept s starts w m links heads counts sizes → w .at + n ≤ length s → AllQuiet s (w .at) (w .at + n) → Kept s starts (moved w (w .at + n)) m links heads counts sizes

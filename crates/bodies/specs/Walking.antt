@@ -1,7 +1,7 @@
 -- A walk over a text with the searches for a body that begin on the way, at given places. The angle depth of each is told by the brackets that are open
 -- and were opened behind its beginning, and its square depth by the level at which it began and the level of the walk. So at a `{` or `;` those end whose level is that
 -- of the walk, and that began behind all open angle brackets.
-use Prim.Native.Nat.{ℕ, suc, _+_, _-_, _≤_, _<_}
+use Prim.Native.Nat.{ℕ, suc, _+_, _-_, _≤_, _<_, min, max}
 use mathlib.Core.Path.{_≡_, refl, ap, subst, sym, _∙_}
 use mathlib.Core.Logic.{_⊎_, _≢_, inl, inr}
 use mathlib.Core.Bool.{true, false}
@@ -19,6 +19,7 @@ use Rattle.source_rules.specs.WalkSteps.{body-end, body-step}
 use Rattle.blocks.specs.Blocks.{count-behind, count-most, countFrom}
 use Rattle.search.specs.BodyLaws.{passed}
 use Rattle.search.specs.LevelLaws.{body-same}
+use Rattle.chunks.specs.Sums.{count-more}
 use Rattle.bodies.specs.Angles.{Stack, Turned, above, above-before, above-behind, above-next, boundaryOf, empty-stack, stack-next}
 use Rattle.bodies.specs.Chain.{Chain, Fits, Pending, added, added-fits, same-or-not, set-elsewhere, set-there}
 use Rattle.bodies.specs.Settling.{Settled}
@@ -48,30 +49,28 @@ pub record Ended (level : ℕ → ℕ) (E : ℕ → Type 0) (b at : ℕ) (m n li
   pub told : (i : ℕ) → (getD n (2 + i) 0 ≡ getD m (2 + i) 0) ⊎ (Pending m i × E i × EndsWith b at (getD n (2 + i) 0))
   pub stays : (i : ℕ) → Pending n i → Pending m i × ((E i → ⊥) ⊎ ((b ≢ braceOpen) × (b ≢ semicolon)))
 
--- the next search is put before the chain of the walk's level, where it is one of those kept; else nothing changes
-abbrev pub Adds : Walk → (m links heads m′ links′ heads′ : List ℕ) → Type 0
-Adds w m links heads m′ links′ heads′ =
+-- the walk with one search more
+abbrev pub begun : Walk → (pending low high : ℕ) → Walk
+begun w pending low high =
+    record { at = w .at; next = w .next + 1; height = w .height; opened = w .opened; closed = w .closed; pending = pending; low = low; high = high }
+
+-- the next search is put before the chain of the walk's level, where it is one of those kept; else nothing is noted of it
+abbrev pub Adds : (w v : Walk) → (m links heads m′ links′ heads′ : List ℕ) → Type 0
+Adds w v m links heads m′ links′ heads′ =
     let k = 2048 + w .opened - w .closed in
-    ((m′ ≡ m) × (links′ ≡ links) × (heads′ ≡ heads))
-    ⊎ ((w .closed ≤ 2048 + w .opened)
+    ((v ≡ begun w (w .pending) (w .low) (w .high)) × (m′ ≡ m) × (links′ ≡ links) × (heads′ ≡ heads))
+    ⊎ ((v ≡ begun w (w .pending + 1) (min (w .low) k) (max (w .high) k))
+    × (w .closed ≤ 2048 + w .opened)
     × (k ≤ 4096)
     × (m′ ≡ set m (2 + w .next) 1)
     × (links′ ≡ set links (w .next) (getD heads k 0))
     × (heads′ ≡ set heads k (w .next + 1)))
 
--- the walk with one search more
-abbrev pub begun : Walk → (pending : ℕ) → Walk
-begun w pending = record { at = w .at; next = w .next + 1; height = w .height; opened = w .opened; closed = w .closed; pending = pending }
-
 -- the next search begins where the walk is, or nothing changes
 abbrev pub Begins : List ℕ → (w v : Walk) → (m links heads m′ links′ heads′ : List ℕ) → Type 0
 Begins starts w v m links heads m′ links′ heads′ =
     ((v ≡ w) × (m′ ≡ m) × (links′ ≡ links) × (heads′ ≡ heads))
-    ⊎ ((v ≡ begun w (v .pending))
-    × (v .pending ≤ w .pending + 1)
-    × (w .next < 2048)
-    × (getD starts (w .next) 0 ≡ w .at)
-    × Adds w m links heads m′ links′ heads′)
+    ⊎ ((w .next < 2048) × (getD starts (w .next) 0 ≡ w .at) × Adds w v m links heads m′ links′ heads′)
 
 -- the search that begins at the place of an index
 abbrev pub sought : (s starts : List ℕ) → ℕ → Option ℕ
@@ -102,6 +101,9 @@ pub record Kept (s starts : List ℕ) (w : Walk) (m links heads counts sizes : L
   pub before : (i : ℕ) → Pending m i → i < w .next
   pub whole : (i : ℕ) → Pending m i → closedBefore s starts i ≤ 2048 + openedBefore s starts i
   pub tracked : (i : ℕ) → Pending m i → Tracks s starts w counts sizes i
+  pub low-most : w .low ≤ 4096
+  pub high-most : w .high ≤ 4096
+  pub between : (i : ℕ) → Pending m i → (w .low ≤ levelOf s starts i) × (levelOf s starts i ≤ w .high)
   pub tells : (i : ℕ) → Tells (getD m (2 + i) 0) (sought s starts i)
 
 -- nothing is noted yet
@@ -157,7 +159,7 @@ ended-other level E b at m links heads o c h = record { chain = h; told = λ i. 
 
 -- at the beginning
 pub kept-first : (s starts m links heads counts sizes : List ℕ) → getD starts 0 0 ≤ length s → length s ≤ 4294967292 → Fresh m links heads counts sizes
-    → Kept s starts (record { at = getD starts 0 0; next = 0; height = 0; opened = 0; closed = 0; pending = 0 }) m links heads counts sizes
+    → Kept s starts (record { at = getD starts 0 0; next = 0; height = 0; opened = 0; closed = 0; pending = 0; low = 4096; high = 0 }) m links heads counts sizes
 unfolding countFrom
 kept-first s starts m links heads counts sizes h l f =
     let z : getD starts 0 0 - getD starts 0 0 ≡ 0 = omega arith in
@@ -181,6 +183,9 @@ kept-first s starts m links heads counts sizes h l f =
       before = λ i p. absurd (none-pending i p);
       whole = λ i p. absurd (none-pending i p);
       tracked = λ i p. absurd (none-pending i p);
+      low-most = omega arith;
+      high-most = omega arith;
+      between = λ i p. absurd (none-pending i p);
       tells = λ i. tells-nothing _ _ (omega (arith, f .no-number i));
     } where
       none-pending : (i : ℕ) → Pending m i → ⊥
@@ -189,15 +194,15 @@ kept-first s starts m links heads counts sizes h l f =
 -- the walk stays where it is
 pub begins-at : (starts : List ℕ) (w v : Walk) (m links heads m′ links′ heads′ : List ℕ) → Begins starts w v m links heads m′ links′ heads′ → v .at ≡ w .at
 begins-at starts w v m links heads m′ links′ heads′ (inl e) = ap (λ x. x .at) (e .0)
-begins-at starts w v m links heads m′ links′ heads′ (inr e) = ap (λ x. x .at) (e .0)
+begins-at starts w v m links heads m′ links′ heads′ (inr e) = elim (e .2) [ inl a ↦ ap (λ x. x .at) (a .0) | inr a ↦ ap (λ x. x .at) (a .0) ]
 
 -- the next search begins
 module _ (s starts : List ℕ) (w : Walk) (m links heads counts sizes : List ℕ) (k : Kept s starts w m links heads counts sizes) where
   abbrev i : ℕ
   i = w .next
 
-  module _ (pending : ℕ) (few : pending ≤ w .pending + 1) (within : w .next < 2048) (here : getD starts (w .next) 0 ≡ w .at) where
-    kept-same : Kept s starts (begun w pending) m links heads counts sizes
+  module _ (within : w .next < 2048) (here : getD starts (w .next) 0 ≡ w .at) where
+    kept-same : Kept s starts (begun w (w .pending) (w .low) (w .high)) m links heads counts sizes
     kept-same =
         record {
           behind = k .behind;
@@ -205,13 +210,16 @@ module _ (s starts : List ℕ) (w : Walk) (m links heads counts sizes : List ℕ
           small = k .small;
           opened-is = k .opened-is;
           closed-is = k .closed-is;
-          few = (let h = k .few in omega (arith, h, few));
+          few = (let h = k .few in omega (arith, h));
           stack = stack-next counts sizes (w .height) (w .next) (w .at) within (k .stack);
           fits = k .fits;
           chain = k .chain;
           before = λ j p. (let h = k .before j p in omega (arith, h));
           whole = k .whole;
           tracked = k .tracked;
+          low-most = k .low-most;
+          high-most = k .high-most;
+          between = k .between;
           tells = k .tells;
         }
 
@@ -238,7 +246,10 @@ module _ (s starts : List ℕ) (w : Walk) (m links heads counts sizes : List ℕ
       earlier : (j : ℕ) → j ≢ i → Pending numbers j → Pending m j
       earlier j e p = sym (set-elsewhere m i 1 j e) ∙ p
 
-      kept-added : Kept s starts (begun w pending) (set m (2 + w .next) 1) (set links (w .next) (getD heads (2048 + w .opened - w .closed) 0)) (set heads (2048 + w .opened - w .closed) (w .next + 1)) counts sizes
+      abbrev level : ℕ
+      level = 2048 + w .opened - w .closed
+
+      kept-added : Kept s starts (begun w (w .pending + 1) (min (w .low) level) (max (w .high) level)) (set m (2 + w .next) 1) (set links (w .next) (getD heads (2048 + w .opened - w .closed) 0)) (set heads (2048 + w .opened - w .closed) (w .next + 1)) counts sizes
       kept-added =
           record {
             behind = k .behind;
@@ -246,7 +257,7 @@ module _ (s starts : List ℕ) (w : Walk) (m links heads counts sizes : List ℕ
             small = k .small;
             opened-is = k .opened-is;
             closed-is = k .closed-is;
-            few = (let h = k .few in omega (arith, h, few));
+            few = (let h = k .few in omega (arith, h));
             stack = stack-next counts sizes (w .height) (w .next) (w .at) within (k .stack);
             fits = added-fits (levelOf s starts) m links heads (2048 + w .opened - w .closed) i (k .fits) (k .chain) (k .before) at-level low within;
             chain = added (levelOf s starts) m links heads (2048 + w .opened - w .closed) i (k .fits) (k .chain) (k .before) at-level low within;
@@ -256,19 +267,25 @@ module _ (s starts : List ℕ) (w : Walk) (m links heads counts sizes : List ℕ
               | inr e ↦ k .whole j (earlier j e p)
             ];
             tracked = λ j p. elim (same-or-not j i) [ inl e ↦ subst (Tracks s starts w counts sizes) (sym e) tracks-itself | inr e ↦ k .tracked j (earlier j e p) ];
+            low-most = (let h = k .low-most in omega (arith, h));
+            high-most = (let h = k .high-most in omega (arith, h, low));
+            between = λ j p. elim (same-or-not j i) [
+              | inl e ↦ (let l : levelOf s starts j ≡ level = ap (levelOf s starts) e ∙ at-level in (omega (arith, l), omega (arith, l)))
+              | inr e ↦ (let b = k .between j (earlier j e p) in (omega (arith, b .0), omega (arith, b .1)))
+            ];
             tells = λ j. elim (same-or-not j i) [
               | inl e ↦ (let z : getD numbers (2 + j) 0 ≡ 1 = ap (λ x. getD numbers (2 + x) 0) e ∙ set-there m i 1 (omega (arith, within, k .fits .room)) in tells-nothing _ _ (omega (arith, z)))
               | inr e ↦ subst (λ n. Tells n (sought s starts j)) (sym (set-elsewhere m i 1 j e)) (k .tells j)
             ];
           }
 
-    kept-noted : (m′ links′ heads′ : List ℕ) → Adds w m links heads m′ links′ heads′ → Kept s starts (begun w pending) m′ links′ heads′ counts sizes
-    kept-noted m′ links′ heads′ (inl e) = rw (e .0, e .1, e .2) kept-same
-    kept-noted m′ links′ heads′ (inr e) = rw (e .2, e .3, e .4) (kept-added (e .0) (e .1))
+    kept-noted : (v : Walk) (m′ links′ heads′ : List ℕ) → Adds w v m links heads m′ links′ heads′ → Kept s starts v m′ links′ heads′ counts sizes
+    kept-noted v m′ links′ heads′ (inl e) = rw (e .0, e .1, e .2, e .3) kept-same
+    kept-noted v m′ links′ heads′ (inr e) = rw (e .0, e .3, e .4, e .5) (kept-added (e .1) (e .2))
 
   pub kept-begun : (v : Walk) (m′ links′ heads′ : List ℕ) → Begins starts w v m links heads m′ links′ heads′ → Kept s starts v m′ links′ heads′ counts sizes
   kept-begun v m′ links′ heads′ (inl e) = rw (e .0, e .1, e .2, e .3) k
-  kept-begun v m′ links′ heads′ (inr e) = subst (λ x. Kept s starts x m′ links′ heads′ counts sizes) (sym (e .0)) (kept-noted (v .pending) (e .1) (e .2) (e .3) m′ links′ heads′ (e .4))
+  kept-begun v m′ links′ heads′ (inr e) = kept-noted (e .0) (e .1) v m′ links′ heads′ (e .2)
 
 -- a search at depth 0 ends at a { or ;
 module _ (angle opened closed : ℕ) where
@@ -291,14 +308,6 @@ module _ (angle opened closed : ℕ) where
   ends-tells s at n h f (inl e) = tells-none _ _ (e .1) (ends-none s at h f (e .0))
   ends-tells s at n h f (inr e) = tells-brace _ at _ (e .1) (ends-some s at h f (e .0))
 
--- one byte more is counted
-count-more : (x : ℕ) (s : List ℕ) (start at n : ℕ) → start ≤ at → n ≡ countFrom x s start (at - start) → countAfter x (getD s at 0) n ≡ countFrom x s start (at + 1 - start)
-unfolding countFrom
-count-more x s start at n h e =
-    let a : at + 1 - start ≡ suc (at - start) = omega arith in
-    let p : start + (at - start) ≡ at = omega arith in
-    rw (a, p, e)
-
 -- the walk goes past a byte
 module _ (s starts : List ℕ) (w : Walk) (m links heads counts sizes : List ℕ) (k : Kept s starts w m links heads counts sizes) (h : w .at < length s) where
   abbrev byte : ℕ
@@ -318,10 +327,10 @@ module _ (s starts : List ℕ) (w : Walk) (m links heads counts sizes : List ℕ
         (above-before counts sizes (w .height) (w .next) (w .at) i (k .stack) (t .0), let l = k .whole i p in omega (arith, t .1, l))
 
   module _ (m′ heads′ : List ℕ) (fits : Fits m′ links heads′) (x : Ended (levelOf s starts) (Ends w counts (levelOf s starts)) byte (w .at) m m′ links heads′)
-      (counts′ sizes′ : List ℕ) (height : ℕ) (t : Turned byte (w .next) (w .at) counts sizes (w .height) counts′ sizes′ height)
+      (counts′ sizes′ : List ℕ) (height : ℕ) (t : Turned (angleAfter byte) (w .next) (w .at + 1) counts sizes (w .height) counts′ sizes′ height)
       (opened closed pending : ℕ) (o : opened ≡ countAfter squareOpen byte (w .opened)) (c : closed ≡ countAfter squareClose byte (w .closed)) (few : pending ≤ w .pending) where
     abbrev further : Walk
-    further = record { at = w .at + 1; next = w .next; height = height; opened = opened; closed = closed; pending = pending }
+    further = record { at = w .at + 1; next = w .next; height = height; opened = opened; closed = closed; pending = pending; low = w .low; high = w .high }
 
     goes-on : (i : ℕ) → Pending m′ i → Tracks s starts further counts′ sizes′ i
     goes-on i p =
@@ -339,7 +348,7 @@ module _ (s starts : List ℕ) (w : Walk) (m links heads counts sizes : List ℕ
           same-counts : (a b d e f g : ℕ) → a ≡ b → d ≡ e → f ≡ g → bodyAt a d f (w .at + 1) (drop (w .at + 1) s) ≡ bodyAt b e g (w .at + 1) (drop (w .at + 1) s)
           same-counts a b d e f g ab de fg = rw (ab, de, fg)
 
-    pub kept-further : Kept s starts (record { at = w .at + 1; next = w .next; height = height; opened = opened; closed = closed; pending = pending }) m′ links heads′ counts′ sizes′
+    pub kept-further : Kept s starts (record { at = w .at + 1; next = w .next; height = height; opened = opened; closed = closed; pending = pending; low = w .low; high = w .high }) m′ links heads′ counts′ sizes′
     kept-further =
         record {
           behind = (let b = k .behind in omega (arith, b));
@@ -354,6 +363,9 @@ module _ (s starts : List ℕ) (w : Walk) (m links heads counts sizes : List ℕ
           before = λ i p. k .before i (x .stays i p .0);
           whole = λ i p. k .whole i (x .stays i p .0);
           tracked = goes-on;
+          low-most = k .low-most;
+          high-most = k .high-most;
+          between = λ i p. k .between i (x .stays i p .0);
           tells =
               λ i. elim (x .told i) [
                 | inl v ↦ subst (λ n. Tells n (sought s starts i)) (sym v) (k .tells i)

@@ -1,14 +1,20 @@
 // What some searches for a body find. Searches for the brace that opens a body, behind a list of parameters, may each read far. So those that begin at
-// some places are made together, in one walk over the text.
+// some places are made together, in one walk over the text. It passes a chunk in which no search begins or ends without reading it.
+use chunks::Chunk;
+use chunks::Known;
 ghost use mathlib.Core.Path.{_≡_};
-ghost use mathlib.Core.Bool.{false};
+ghost use mathlib.Core.Bool.{true, false};
 ghost use mathlib.Core.Logic.{_≢_};
+ghost use mathlib.Core.List.{List};
 ghost use Prim.Native.Nat.{ℕ, _+_, _-_, _≤_, _<_};
 ghost use lib.ListN.{length, getD, set};
-ghost use Rattle.text_rules.specs.Classes.{angleOpen};
-ghost use Rattle.bodies.specs.Angles.{Stack, Turned, boundaryOf};
+ghost use Rattle.source_rules.specs.Finding.{angleAfter};
+ghost use Rattle.chunks.specs.Passing.{Summary};
+ghost use Rattle.chunks.specs.Table.{Summed};
+ghost use Rattle.bodies.specs.Angles.{Stack, Turned, above, boundaryOf, less, more};
 ghost use Rattle.bodies.specs.Bodies.{Finds, Rising};
 ghost use Rattle.bodies.specs.Chain.{Chain, Fits};
+ghost use Rattle.bodies.specs.Crossing.{Missed, Narrows, crossed, depthBehind};
 ghost use Rattle.bodies.specs.Quiet.{AllQuiet, Quiet, Skips};
 ghost use Rattle.bodies.specs.Settling.{Behind, Settled};
 ghost use Rattle.bodies.specs.Walking.{Adds, Begins, Ended, Ends, Fresh, Kept, Rest, Told};
@@ -28,7 +34,7 @@ const NONE: u32 = 2;
 const FIRST: usize = 3;
 
 fn place(n: u32) -> usize
-    ensures { λ r. ⌜ r ≡ n ⌝ }
+    ensures { λ r. ⌜ (r ≡ n) × (r < 4294967296) ⌝ }
 {
     n as usize
 }
@@ -37,13 +43,6 @@ fn wide(n: u16) -> usize
     ensures { λ r. ⌜ (r ≡ n) × (r < 65536) ⌝ }
 {
     n as usize
-}
-
-// One less, 0 where it would be below.
-fn one_less(n: usize) -> usize
-    ensures { λ r. ⌜ r ≡ n - 1 ⌝ }
-{
-    if n == 0 { 0 } else { n - 1 }
 }
 
 // The searches of a level that begin at a boundary or behind it end, with a number. They are taken off the front of the level's chain. Answers how many
@@ -73,7 +72,7 @@ fn settle(
         m[2 + j] = number;
         heads[level] = links[j];
         head = wide(links[j]);
-        left = one_less(left);
+        left = search::less(left, 1);
     }
     left
 }
@@ -90,7 +89,7 @@ fn boundary(height: usize, counts: &[u16; 2049]) -> usize
 }
 
 // How far the walk over a text has come: how many searches have begun, the groups of angle brackets that are open, the square brackets that were opened
-// and closed since the walk began, and how many searches are pending.
+// and closed since the walk began, how many searches are pending, and the lowest and the highest level at which one may be.
 struct Walk {
     at: usize,
     next: usize,
@@ -98,6 +97,8 @@ struct Walk {
     opened: usize,
     closed: usize,
     pending: usize,
+    low: usize,
+    high: usize,
 }
 
 // The level of square brackets at which the walk is, a number above TOP where none is kept for it.
@@ -188,69 +189,104 @@ fn end_at(
     w.pending
 }
 
-// A group of one bracket.
+// A group of some brackets.
 fn begin_group(
+    n: usize,
     next: usize,
     height: usize,
     counts: &mut [u16; 2049],
     sizes: &mut [u32; 2049],
 ) -> usize
-    requires { ⌜ (next ≤ 2048) × (height ≤ 2048) × (length (now counts) ≡ 2049) × (length (now sizes) ≡ 2049) ⌝ }
+    requires { ⌜
+        (n ≤ 4294967292)
+        × (next ≤ 2048)
+        × (height ≤ 2048)
+        × (length (now counts) ≡ 2049)
+        × (length (now sizes) ≡ 2049)
+        ⌝ }
     ensures { λ r. ⌜
         (r ≡ height + 1)
         × (now (counts .exit) ≡ set (now (counts .entry)) height next)
-        × (now (sizes .exit) ≡ set (now (sizes .entry)) height 1)
+        × (now (sizes .exit) ≡ set (now (sizes .entry)) height n)
         ⌝ }
 {
     counts[height] = next as u16;
-    sizes[height] = 1;
+    sizes[height] = n as u32;
     height + 1
 }
 
-// The groups behind a `<`. It belongs to the last one if no search has begun since that one began.
-fn angle_opened(w: Walk, counts: &mut [u16; 2049], sizes: &mut [u32; 2049]) -> usize
-    requires { ⌜ (w .at < 4294967292) × Stack (now counts) (now sizes) (w .height) (w .next) (w .at) ⌝ }
+// The groups once a number of brackets is opened. They belong to the last group if no search has begun since that one began.
+fn angles_opened(
+    n: usize,
+    w: Walk,
+    height: usize,
+    counts: &mut [u16; 2049],
+    sizes: &mut [u32; 2049],
+) -> usize
+    requires { ⌜ (w .at + n ≤ 4294967292) × Stack (now counts) (now sizes) height (w .next) (w .at) ⌝ }
     ensures { λ r. ⌜
-        Turned angleOpen (w .next) (w .at) (now (counts .entry)) (now (sizes .entry)) (w .height) (now (counts .exit)) (now (sizes .exit)) r
+        Turned (more n) (w .next) (w .at + n) (now (counts .entry)) (now (sizes .entry)) height (now (counts .exit)) (now (sizes .exit)) r
         ⌝ }
 {
-    if w.height == 0 {
-        return begin_group(w.next, w.height, counts, sizes);
+    if n == 0 {
+        return height;
     }
-    let last = w.height - 1;
+    if height == 0 {
+        return begin_group(n, w.next, height, counts, sizes);
+    }
+    let last = height - 1;
     if wide(counts[last]) != w.next {
-        return begin_group(w.next, w.height, counts, sizes);
+        return begin_group(n, w.next, height, counts, sizes);
     }
-    sizes[last] = sizes[last] + 1;
-    w.height
+    sizes[last] = sizes[last] + n as u32;
+    height
+}
+
+// The groups once a number of brackets is closed, the last ones first. A group of which all are closed is gone.
+fn angles_closed(n: usize, height: usize, sizes: &mut [u32; 2049]) -> usize
+    requires { ⌜ (height ≤ 2049) × (length (now sizes) ≡ 2049) ⌝ }
+    ensures { λ r. ⌜
+        ((counts : List ℕ) (next at : ℕ)
+        → Stack counts (now (sizes .entry)) height next at
+        → Turned (less n) next at counts (now (sizes .entry)) height counts (now (sizes .exit)) r)
+        ⌝ }
+{
+    let mut left = n;
+    let mut rest = height;
+    while 0 < left {
+        if rest == 0 {
+            return rest;
+        }
+        let last = rest - 1;
+        let size = place(sizes[last]);
+        if left < size {
+            sizes[last] = (size - left) as u32;
+            return rest;
+        }
+        left -= size;
+        rest = last;
+    }
+    rest
 }
 
 // The groups of angle brackets behind a byte. A `>` closes the last bracket that is open.
 fn angles_after(b: u8, w: Walk, counts: &mut [u16; 2049], sizes: &mut [u32; 2049]) -> usize
     requires { ⌜ (w .at < 4294967292) × Stack (now counts) (now sizes) (w .height) (w .next) (w .at) ⌝ }
     ensures { λ r. ⌜
-        Turned b (w .next) (w .at) (now (counts .entry)) (now (sizes .entry)) (w .height) (now (counts .exit)) (now (sizes .exit)) r
+        Turned (angleAfter b) (w .next) (w .at + 1) (now (counts .entry)) (now (sizes .entry)) (w .height) (now (counts .exit)) (now (sizes .exit)) r
         ⌝ }
 {
     if b == b'<' {
-        return angle_opened(w, counts, sizes);
+        return angles_opened(1, w, w.height, counts, sizes);
     }
-    if b != b'>' {
-        return w.height;
+    if b == b'>' {
+        return angles_closed(1, w.height, sizes);
     }
-    if w.height == 0 {
-        return w.height;
-    }
-    let last = w.height - 1;
-    if sizes[last] == 1 {
-        return last;
-    }
-    sizes[last] = sizes[last] - 1;
     w.height
 }
 
-// A search that begins is put before the chain of its level, where one is kept for it. Answers how many are pending.
-fn note(w: Walk, m: &mut [u32; 2050], links: &mut [u16; 2048], heads: &mut [u16; 4097]) -> usize
+// The walk with the search that begins. It is put before the chain of its level, where one is kept for it.
+fn note(w: Walk, m: &mut [u32; 2050], links: &mut [u16; 2048], heads: &mut [u16; 4097]) -> Walk
     requires { ⌜
         (w .next < 2048)
         × (w .opened ≤ 4294967292)
@@ -258,20 +294,35 @@ fn note(w: Walk, m: &mut [u32; 2050], links: &mut [u16; 2048], heads: &mut [u16;
         × (w .pending ≤ w .next)
         × Fits (now m) (now links) (now heads)
         ⌝ }
-    ensures { λ r. ⌜
-        (r ≤ w .pending + 1)
-        × Adds w (now (m .entry)) (now (links .entry)) (now (heads .entry)) (now (m .exit)) (now (links .exit)) (now (heads .exit))
-        ⌝ }
+    ensures { λ r. ⌜ Adds w r (now (m .entry)) (now (links .entry)) (now (heads .entry)) (now (m .exit)) (now (links .exit)) (now (heads .exit)) ⌝ }
 {
     let level = level_of(w);
-    if TOP < level {
-        return w.pending;
-    }
     let next = w.next;
+    if TOP < level {
+        return Walk {
+            at: w.at,
+            next: next + 1,
+            height: w.height,
+            opened: w.opened,
+            closed: w.closed,
+            pending: w.pending,
+            low: w.low,
+            high: w.high,
+        };
+    }
     m[2 + next] = PENDING;
     links[next] = heads[level];
     heads[level] = (next + 1) as u16;
-    w.pending + 1
+    Walk {
+        at: w.at,
+        next: next + 1,
+        height: w.height,
+        opened: w.opened,
+        closed: w.closed,
+        pending: w.pending + 1,
+        low: chunks::least(w.low, level),
+        high: chunks::most(w.high, level),
+    }
 }
 
 // The walk with the search that begins where it is, if one does.
@@ -302,14 +353,7 @@ fn begin(
     if place(starts[next]) != w.at {
         return w;
     }
-    Walk {
-        at: w.at,
-        next: next + 1,
-        height: w.height,
-        opened: w.opened,
-        closed: w.closed,
-        pending: note(w, m, links, heads),
-    }
+    note(w, m, links, heads)
 }
 
 // The walk past a byte: the search that begins before it is noted, those that end at it end, and its brackets are counted.
@@ -347,6 +391,8 @@ fn step(
         opened: search::count_after(b'[', b, v.opened),
         closed: search::count_after(b']', b, v.closed),
         pending,
+        low: v.low,
+        high: v.high,
     }
 }
 
@@ -402,12 +448,12 @@ fn next_start(starts: &[u32; 2048], many: usize, next: usize, end: usize) -> usi
     start
 }
 
-// The walk past bytes that are no marks and at which no search begins. Most bytes are.
-fn skip(s: &[u8], starts: &[u32; 2048], many: usize, w: Walk) -> Walk
-    requires { ⌜ (w .at ≤ length (now s)) × (many ≤ 2048) × (length (now starts) ≡ 2048) ⌝ }
+// The walk past bytes before `end` that are no marks and at which no search begins. Most bytes are.
+fn skip(s: &[u8], starts: &[u32; 2048], many: usize, w: Walk, end: usize) -> Walk
+    requires { ⌜ (w .at ≤ length (now s)) × (many ≤ 2048) × (length (now starts) ≡ 2048) × (end ≤ length (now s)) ⌝ }
     ensures { λ r. ⌜ Skips (now (s .entry)) w r ⌝ }
 {
-    let to = next_start(starts, many, w.next, s.len());
+    let to = next_start(starts, many, w.next, end);
     Walk {
         at: quiet_end(s, w.at, to),
         next: w.next,
@@ -415,6 +461,225 @@ fn skip(s: &[u8], starts: &[u32; 2048], many: usize, w: Walk) -> Walk
         opened: w.opened,
         closed: w.closed,
         pending: w.pending,
+        low: w.low,
+        high: w.high,
+    }
+}
+
+// The walk past a byte and the quiet ones behind it. It stops where a chunk begins.
+fn read_on(
+    s: &[u8],
+    starts: &[u32; 2048],
+    many: usize,
+    w: Walk,
+    m: &mut [u32; 2050],
+    links: &mut [u16; 2048],
+    heads: &mut [u16; 4097],
+    counts: &mut [u16; 2049],
+    sizes: &mut [u32; 2049],
+) -> Walk
+    requires { ⌜
+        (w .at < length (now s))
+        × (many ≤ 2048)
+        × (length (now starts) ≡ 2048)
+        × Kept (now s) (now starts) w (now m) (now links) (now heads) (now counts) (now sizes)
+        ⌝ }
+    ensures { λ r. ⌜
+        (w .at < r .at)
+        × Kept (now (s .entry)) (now (starts .entry)) r (now (m .exit)) (now (links .exit)) (now (heads .exit)) (now (counts .exit)) (now (sizes .exit))
+        ⌝ }
+{
+    let end = chunks::edge_after(w.at, s.len());
+    let past = step(s, starts, many, w, m, links, heads, counts, sizes);
+    skip(s, starts, many, past, end)
+}
+
+// The lowest level from `low` on, and the highest up to `high`, at which a search is pending; the other end where none is before it.
+fn raised(low: usize, high: usize, heads: &[u16; 4097]) -> usize
+    requires { ⌜ (low ≤ 4096) × (high ≤ 4096) × (length (now heads) ≡ 4097) ⌝ }
+    ensures { λ r. ⌜ (r ≤ 4096) × ((k : ℕ) → getD (now (heads .entry)) k 0 ≢ 0 → low ≤ k → r ≤ k) ⌝ }
+{
+    let mut level = low;
+    while level < high {
+        if heads[level] != 0 {
+            return level;
+        }
+        level += 1;
+    }
+    level
+}
+
+fn lowered(low: usize, high: usize, heads: &[u16; 4097]) -> usize
+    requires { ⌜ (high ≤ 4096) × (length (now heads) ≡ 4097) ⌝ }
+    ensures { λ r. ⌜ (r ≤ 4096) × ((k : ℕ) → getD (now (heads .entry)) k 0 ≢ 0 → k ≤ high → k ≤ r) ⌝ }
+{
+    let mut level = high;
+    while low < level {
+        if heads[level] != 0 {
+            return level;
+        }
+        level -= 1;
+    }
+    level
+}
+
+// The walk with no more levels than those between which searches are pending.
+fn narrowed(w: Walk, heads: &[u16; 4097]) -> Walk
+    requires { ⌜ (w .low ≤ 4096) × (w .high ≤ 4096) × (length (now heads) ≡ 4097) ⌝ }
+    ensures { λ r. ⌜ Narrows (now (heads .entry)) w r ⌝ }
+{
+    let low = raised(w.low, w.high, heads);
+    Walk {
+        at: w.at,
+        next: w.next,
+        height: w.height,
+        opened: w.opened,
+        closed: w.closed,
+        pending: w.pending,
+        low,
+        high: lowered(low, w.high, heads),
+    }
+}
+
+// So many angle brackets are open at least for each search that has begun.
+fn least_angle(w: Walk, counts: &[u16; 2049], sizes: &[u32; 2049]) -> usize
+    requires { ⌜ Stack (now counts) (now sizes) (w .height) (w .next) (w .at) ⌝ }
+    ensures { λ r. ⌜ ((i : ℕ) → i < w .next → r ≤ above (now (counts .entry)) (now (sizes .entry)) (w .height) i) ⌝ }
+{
+    if w.height == 0 {
+        return 0;
+    }
+    let last = w.height - 1;
+    if wide(counts[last]) != w.next {
+        return 0;
+    }
+    place(sizes[last])
+}
+
+// Whether no pending search ends in a chunk: each has more angle brackets open than the chunk closes before its last `{` or `;`, or all of these stand
+// above the levels of the searches, or all below.
+fn is_missed(c: Chunk, w: Walk, counts: &[u16; 2049], sizes: &[u32; 2049]) -> bool
+    requires { ⌜
+        (c .low ≤ 65535)
+        × (c .high ≤ 65535)
+        × (w .low ≤ 4096)
+        × (w .high ≤ 4096)
+        × (w .opened ≤ 4294967292)
+        × (w .closed ≤ 4294967292)
+        × Stack (now counts) (now sizes) (w .height) (w .next) (w .at)
+        ⌝ }
+    ensures { λ r. ⌜ (r ≡ true → Missed c w (now (counts .entry)) (now (sizes .entry))) ⌝ }
+{
+    if c.ended < least_angle(w, counts, sizes) {
+        return true;
+    }
+    if 2048 + w.high + w.closed < c.low + w.opened {
+        return true;
+    }
+    c.high + w.opened < 2048 + w.low + w.closed
+}
+
+// Whether no search begins before a place. A search that is passed over is never noted.
+fn is_free(starts: &[u32; 2048], many: usize, next: usize, to: usize) -> bool
+    requires { ⌜ (many ≤ 2048) × (length (now starts) ≡ 2048) ⌝ }
+{
+    if many <= next {
+        return true;
+    }
+    to <= place(starts[next])
+}
+
+// The walk behind a chunk. The angle brackets that it closes from before stand before those that it leaves open.
+fn pass(c: Chunk, w: Walk, counts: &mut [u16; 2049], sizes: &mut [u32; 2049]) -> Walk
+    requires { ⌜
+        (c .ups ≤ 4096)
+        × (c .opened ≤ 4096)
+        × (c .closed ≤ 4096)
+        × (w .at + 4096 ≤ 4294967292)
+        × (w .opened ≤ 4294967292)
+        × (w .closed ≤ 4294967292)
+        × Stack (now counts) (now sizes) (w .height) (w .next) (w .at)
+        ⌝ }
+    ensures { λ r. ⌜
+        (r ≡ crossed c w (r .height))
+        × Turned (depthBehind c) (w .next) (w .at + 4096) (now (counts .entry)) (now (sizes .entry)) (w .height) (now (counts .exit)) (now (sizes .exit)) (r .height)
+        ⌝ }
+{
+    let height = angles_closed(c.downs, w.height, sizes);
+    Walk {
+        at: w.at + chunks::SIZE,
+        next: w.next,
+        height: angles_opened(c.ups, w, height, counts, sizes),
+        opened: w.opened + c.opened,
+        closed: w.closed + c.closed,
+        pending: w.pending,
+        low: w.low,
+        high: w.high,
+    }
+}
+
+// The walk from the beginning of a chunk on: behind the chunk if no search begins or ends in it.
+fn at_chunk(
+    c: Chunk,
+    s: &[u8],
+    starts: &[u32; 2048],
+    many: usize,
+    w: Walk,
+    m: &mut [u32; 2050],
+    links: &mut [u16; 2048],
+    heads: &mut [u16; 4097],
+    counts: &mut [u16; 2049],
+    sizes: &mut [u32; 2049],
+) -> Walk
+    requires { ⌜
+        Summary (now s) (w .at) c
+        × (many ≤ 2048)
+        × (length (now starts) ≡ 2048)
+        × Kept (now s) (now starts) w (now m) (now links) (now heads) (now counts) (now sizes)
+        ⌝ }
+    ensures { λ r. ⌜
+        (w .at < r .at)
+        × Kept (now (s .entry)) (now (starts .entry)) r (now (m .exit)) (now (links .exit)) (now (heads .exit)) (now (counts .exit)) (now (sizes .exit))
+        ⌝ }
+{
+    let v = narrowed(w, heads);
+    if is_free(starts, many, v.next, v.at + chunks::SIZE) {
+        if is_missed(c, v, counts, sizes) {
+            return pass(c, v, counts, sizes);
+        }
+    }
+    read_on(s, starts, many, v, m, links, heads, counts, sizes)
+}
+
+// The walk further on. It comes to the beginning of each chunk once; elsewhere no sums are told.
+fn onward(
+    s: &[u8],
+    t: &[u16; 36865],
+    starts: &[u32; 2048],
+    many: usize,
+    w: Walk,
+    m: &mut [u32; 2050],
+    links: &mut [u16; 2048],
+    heads: &mut [u16; 4097],
+    counts: &mut [u16; 2049],
+    sizes: &mut [u32; 2049],
+) -> Walk
+    requires { ⌜
+        (w .at < length (now s))
+        × (many ≤ 2048)
+        × (length (now starts) ≡ 2048)
+        × Summed (now s) (now t)
+        × Kept (now s) (now starts) w (now m) (now links) (now heads) (now counts) (now sizes)
+        ⌝ }
+    ensures { λ r. ⌜
+        (w .at < r .at)
+        × Kept (now (s .entry)) (now (starts .entry)) r (now (m .exit)) (now (links .exit)) (now (heads .exit)) (now (counts .exit)) (now (sizes .exit))
+        ⌝ }
+{
+    let known = chunks::chunk_at(s, t, w.at);
+    match known {
+        Known::Sums(c) => at_chunk(c, s, starts, many, w, m, links, heads, counts, sizes),
+        Known::Unknown => read_on(s, starts, many, w, m, links, heads, counts, sizes),
     }
 }
 
@@ -429,6 +694,7 @@ fn is_over(w: Walk, many: usize) -> bool {
 // The walk from the first place to the end of the text, or until no search is pending behind the last place. Answers how far it has come.
 fn walk_on(
     s: &[u8],
+    t: &[u16; 36865],
     starts: &[u32; 2048],
     many: usize,
     m: &mut [u32; 2050],
@@ -442,6 +708,7 @@ fn walk_on(
         × (length (now starts) ≡ 2048)
         × (getD (now starts) 0 0 ≤ length (now s))
         × (length (now s) ≤ 4294967292)
+        × Summed (now s) (now t)
         × Fresh (now m) (now links) (now heads) (now counts) (now sizes)
         ⌝ }
     ensures { λ r. ⌜ Told (now (s .entry)) (now (starts .entry)) r (now (m .exit)) ⌝ }
@@ -453,13 +720,14 @@ fn walk_on(
         opened: 0,
         closed: 0,
         pending: 0,
+        low: TOP,
+        high: 0,
     };
     while w.at < s.len() {
         if is_over(w, many) {
             return w.at;
         }
-        let past = step(s, starts, many, w, m, links, heads, counts, sizes);
-        w = skip(s, starts, many, past);
+        w = onward(s, t, starts, many, w, m, links, heads, counts, sizes);
     }
     w.at
 }
@@ -483,13 +751,20 @@ fn finish(s: &[u8], at: usize, m: &mut [u32; 2050])
 
 // For each of some places in rising order what a search for a body that begins there finds: 2 tells that it finds none, a number from 3 on that it finds
 // the brace at the place three below it, any other nothing.
-pub fn note_bodies(s: &[u8], starts: &[u32; 2048], many: usize, numbers: &mut [u32; 2050])
+pub fn note_bodies(
+    s: &[u8],
+    t: &[u16; 36865],
+    starts: &[u32; 2048],
+    many: usize,
+    numbers: &mut [u32; 2050],
+)
     requires { ⌜
         (many ≤ 2048)
         × (length (now starts) ≡ 2048)
         × (length (now numbers) ≡ 2050)
         × Rising (now s) (now starts) many
         × ((k : ℕ) → k < 2048 → getD (now numbers) (2 + k) 0 ≡ 0)
+        × Summed (now s) (now t)
         ⌝ }
     ensures { λ _. ⌜ (length (now (numbers .exit)) ≡ 2050) × Finds (now (s .entry)) (now (starts .entry)) many (now (numbers .exit)) ⌝ }
 {
@@ -505,6 +780,7 @@ pub fn note_bodies(s: &[u8], starts: &[u32; 2048], many: usize, numbers: &mut [u
     let mut sizes = [0u32; 2049];
     let at = walk_on(
         s,
+        t,
         starts,
         many,
         numbers,

@@ -76,33 +76,37 @@ fn record_of(number: usize, place: usize, f: Found) -> Record
     }
 }
 
-// The records of a blanked text's functions, the first with the number `done`; answers the number behind the last. The array is for what is
-// noted of the text, and holds nothing of the text before.
+// The records of a blanked text's functions, the first with the number `done`; answers the number behind the last. The arrays are for what is
+// noted of the text and for the sums of its chunks, and hold nothing of the text before.
 fn scan_text(
     s: &[u8],
     number: usize,
     place: usize,
     lent: &mut [u8],
     done: usize,
-    noted: &mut [u32; 4098],
+    noted: &mut [u32; 4099],
+    sums: &mut [u16; 36865],
 ) -> usize
     requires { ⌜
         (number < 1024)
         × (place + length (now s) ≤ 16777216)
         × (done ≤ 17179869184)
-        × (length (now noted) ≡ 4098)
+        × (length (now noted) ≡ 4099)
+        × (length (now sums) ≡ 36865)
         ⌝ }
     ensures { λ r. ⌜
         (r ≡ done + length (functions (now (s .entry))))
         × (now (lent .exit) ≡ putRecords done (recordsFor number place (functions (now (s .entry)))) (now (lent .entry)))
-        × (length (now (noted .exit)) ≡ 4098)
+        × (length (now (noted .exit)) ≡ 4099)
+        × (length (now (sums .exit)) ≡ 36865)
         ⌝ }
 {
     windows::clear(noted);
+    chunks::clear(sums);
     let mut c = source::start(s);
     let mut n = done;
     loop {
-        let step = c.next(s, noted);
+        let step = c.next(s, noted, sums);
         match step {
             Step::Function(f, d) => {
                 put_numbered(lent, n, record_of(number, place, f));
@@ -125,14 +129,23 @@ fn scan_texts(tree: &[u8], work: &[u8], lent: &mut [u8]) -> usize
         ⌝ }
 {
     let n = tree::file_count(tree);
-    let mut noted = [0u32; 4098];
+    let mut noted = [0u32; 4099];
+    let mut sums = [0u16; 36865];
     let mut file = 0;
     let mut done = 0;
     while file < n {
         let text = tree::text_span(tree, file);
         let from = text.from;
         let to = text.to;
-        done = scan_text(&work[from..to], file, from, lent, done, &mut noted);
+        done = scan_text(
+            &work[from..to],
+            file,
+            from,
+            lent,
+            done,
+            &mut noted,
+            &mut sums,
+        );
         file += 1;
     }
     done

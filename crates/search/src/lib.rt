@@ -260,7 +260,7 @@ pub enum Reached {
 }
 
 // A difference, 0 where it would be below.
-fn less(a: usize, b: usize) -> usize
+pub fn less(a: usize, b: usize) -> usize
     ensures { λ r. ⌜ r ≡ a - b ⌝ }
 {
     if a < b { 0 } else { a - b }
@@ -416,7 +416,7 @@ pub fn ahead(from: usize, many: usize, to: usize) -> usize
 }
 
 // The bytes that are read one by one where a block cannot be passed, before the next is asked: a text of such blocks loses little by the questions.
-const STRETCH: usize = 256;
+const STRETCH: usize = 1024;
 
 // The same search where it is long: by blocks as far as they can be passed, then a stretch of bytes, and so on. Blocks and bytes have a loop each: a
 // byte of a block that is read in the same loop keeps the compiler from reading the sixteen at once.

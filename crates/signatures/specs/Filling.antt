@@ -16,7 +16,10 @@ use Rattle.text_rules.specs.Classes.{roundClose, roundOpen}
 use Rattle.source_rules.specs.Finding.{bodyAt}
 use Rattle.source_rules.specs.WalkSteps.{partner-close, partner-end, partner-found, partner-open, partner-other}
 use Rattle.windows.specs.Window.{Found, Noted, found-tells}
+use Rattle.chunks.specs.Passing.{TellsDepth}
+use Rattle.chunks.specs.declared.Past.the-variants.{Depth}
 use Rattle.bodies.specs.Bodies.{Rising}
+use Rattle.signatures.specs.declared.Pass.{Pass}
 use Rattle.signatures.specs.Signatures.{Told, bodyBehind, never, no-brace, no-end, soughtFrom}
 
 -- at a place `high` brackets wait: each is sought on with those above it and `inner` more open inside it
@@ -43,6 +46,17 @@ pub record Order (s owners starts : List ℕ) (from many at ended : ℕ) : Type 
   pub most : (k : ℕ) → k < ended → getD starts k 0 ≤ at
   pub rising : (j k : ℕ) → j < k → k < ended → getD starts j 0 < getD starts k 0
 
+-- how far the pass over the text has come
+pub record Passed (s opens owners starts : List ℕ) (from many : ℕ) (p : Pass) : Type 0 where
+  pub inside : p .at ≤ length s
+  pub few : p .high + p .ended ≤ many
+  pub inner-most : p .inner ≤ p .at
+  pub waiting : Waiting s opens from many (p .at) (p .high) (p .inner)
+  pub order : Order s owners starts from many (p .at) (p .ended)
+
+abbrev pub passAt : (at high ended inner : ℕ) → Pass
+passAt at high ended inner = record { at = at; high = high; ended = ended; inner = inner }
+
 -- the numbers of the part are noted, and each tells what it must
 pub record Window (s : List ℕ) (from many : ℕ) (m : List ℕ) : Type 0 where
   pub noted : Noted (Told s) m
@@ -61,7 +75,7 @@ pub data Closes (found start first second : ℕ) : Type 0 where
 
 -- the numbers of the first places of the part are 0
 pub record Begun (from many done : ℕ) (m : List ℕ) : Type 0 where
-  pub room : length m ≡ 4098
+  pub room : length m ≡ 4099
   pub begins : getD m 0 0 ≡ from
   pub places : getD m 1 0 ≡ many
   pub zero-each : (k : ℕ) → k < done → (getD m (2 + k) 0 ≡ 0) × (getD m (2050 + k) 0 ≡ 0)
@@ -98,7 +112,7 @@ pair-behind : (m : List ℕ) (i v w k : ℕ) → k < 2 → getD (setPair m i v w
 pair-behind m i v w k h = getD-set-other (set m (2 + i) v) (2050 + i) k w 0 (λ q. omega arith) ∙ getD-set-other m (2 + i) k v 0 (λ q. omega arith)
 
 -- what holds of the numbers that are set and of those of the other places holds of each
-set-pair : (P : (k v w : ℕ) → Type 0) (m : List ℕ) (i v w : ℕ) → length m ≡ 4098 → i < 2048 → P i v w → (k : ℕ) → k < 2048
+set-pair : (P : (k v w : ℕ) → Type 0) (m : List ℕ) (i v w : ℕ) → length m ≡ 4099 → i < 2048 → P i v w → (k : ℕ) → k < 2048
     → (k ≢ i → P k (getD m (2 + k) 0) (getD m (2050 + k) 0)) → P k (getD (setPair m i v w) (2 + k) 0) (getD (setPair m i v w) (2050 + k) 0)
 set-pair P m i v w room h here k g other =
     let r = set m (2 + i) v in
@@ -195,6 +209,11 @@ module _ (s opens : List ℕ) (from many at high inner : ℕ) (w : Waiting s ope
                 w .sought k (omega arith) ∙ partner-close s at h roundOpen roundClose (inner + (high - 1 - k)) differ e (λ q. omega arith) ∙ ap (soughtFrom s (at + 1)) d;
           }
 
+-- behind a chunk in which none of them is closed
+waiting-past : (s opens : List ℕ) (from many at high inner d : ℕ) → Waiting s opens from many at high inner → TellsDepth s at inner (Depth d)
+    → Waiting s opens from many (at + 4096) high d
+waiting-past s opens from many at high inner d w e = record { within = w .within; sought = λ k l. w .sought k l ∙ e .2 (high - 1 - k) }
+
 -- ---- the brackets that are closed
 
 pub order-none : (s owners starts : List ℕ) (from many at : ℕ) → length owners ≡ 2048 → length starts ≡ 2048 → Order s owners starts from many at 0
@@ -238,6 +257,54 @@ order-met s opens owners starts from many at high inner ended w o h e z i room =
     let back : at ≡ at + 1 - 1 = omega arith in
     order-next s owners starts from many at ended (getD opens (high - 1) 0) o room
     (record { within = w .within (high - 1) (omega arith); least = omega arith; partner-there = waiting-met s opens from many at high inner w h e z i ∙ ap some back })
+
+-- ---- the pass
+
+-- further on, where the same brackets wait
+passed-on : {s opens owners starts : List ℕ} {from many at high ended inner to d : ℕ} → Passed s opens owners starts from many (passAt at high ended inner) → at ≤ to → to ≤ length s
+    → d ≤ to → Waiting s opens from many to high d → Passed s opens owners starts from many (passAt to high ended d)
+passed-on {s} {opens} {owners} {starts} {from} {many} {at} {high} {ended} {inner} {to} w h i l v =
+    record { inside = i; few = w .few; inner-most = l; waiting = v; order = order-later s owners starts from many at to ended (w .order) h }
+
+-- one byte further
+module _ {s opens owners starts : List ℕ} {from many at high ended inner : ℕ} (w : Passed s opens owners starts from many (passAt at high ended inner)) (h : at < length s) where
+  pub passed-other : getD s at 0 ≢ roundOpen → getD s at 0 ≢ roundClose → Passed s opens owners starts from many (passAt (at + 1) high ended inner)
+  passed-other o c = passed-on w (omega arith) (omega arith) (omega (arith, w .inner-most)) (waiting-other s opens from many at high inner (w .waiting) h o c)
+
+  pub passed-open : getD s at 0 ≡ roundOpen → Passed s opens owners starts from many (passAt (at + 1) high ended (inner + 1))
+  passed-open e = passed-on w (omega arith) (omega arith) (omega (arith, w .inner-most)) (waiting-open s opens from many at high inner (w .waiting) h e)
+
+  pub passed-close : getD s at 0 ≡ roundClose → 0 < inner → Passed s opens owners starts from many (passAt (at + 1) high ended (inner - 1))
+  passed-close e i = passed-on w (omega arith) (omega arith) (omega (arith, w .inner-most)) (waiting-close s opens from many at high inner (w .waiting) h e i)
+
+  -- the one on top has its partner
+  pub passed-met : getD s at 0 ≡ roundClose → inner ≤ 0 → 0 < high → many ≤ 2048
+      → Passed s opens (set owners ended (getD opens (high - 1) 0)) (set starts ended (at + 1)) from many (passAt (at + 1) (high - 1) (ended + 1) inner)
+  passed-met e l i room =
+      let z : inner ≡ 0 = omega arith in
+      record {
+        inside = omega arith;
+        few = omega (arith, w .few);
+        inner-most = omega arith;
+        waiting = waiting-pop s opens from many at high inner (w .waiting) h e z;
+        order = order-met s opens owners starts from many at high inner ended (w .waiting) (w .order) h e z i (omega (arith, w .few));
+      }
+
+-- a chunk further
+pub passed-chunk : {s opens owners starts : List ℕ} {from many at high ended inner d : ℕ} → Passed s opens owners starts from many (passAt at high ended inner) → TellsDepth s at inner (Depth d)
+    → Passed s opens owners starts from many (passAt (at + 4096) high ended d)
+passed-chunk {s} {opens} {owners} {starts} {from} {many} {at} {high} {ended} {inner} {d} w e =
+    passed-on w (omega arith) (e .0) (e .1) (waiting-past s opens from many at high inner d (w .waiting) e)
+
+-- where none waits, or the text ends, those that wait have no partner
+pub passed-end : {s opens owners starts : List ℕ} {from many : ℕ} {p : Pass} → Passed s opens owners starts from many p → (p .high ≡ 0) ⊎ (length s ≤ p .at)
+    → (p .high + p .ended ≤ many) × Unmet s opens from many (p .high) × Order s owners starts from many (length s) (p .ended)
+passed-end {s} {opens} {owners} {starts} {from} {many} {p} w end = (
+  w .few,
+  ⊎-elim (λ z. record { within = w .waiting .within; nowhere = λ k l. absurd (omega (arith, z, l)) })
+      (waiting-end s opens from many (p .at) (p .high) (p .inner) (w .waiting)) end,
+  order-later s owners starts from many (p .at) (length s) (p .ended) (w .order) (w .inside),
+)
 
 -- the places behind their partners rise
 pub order-rising : (s owners starts : List ℕ) (from many ended : ℕ) → Order s owners starts from many (length s) ended → Rising s starts ended
@@ -304,9 +371,9 @@ window-set s m from many i first second w h p =
       places = places′;
     }
 
-pub begun-none : (from many : ℕ) (m : List ℕ) → length m ≡ 4098 → Begun from many 0 (set (set m 0 from) 1 many)
+pub begun-none : (from many : ℕ) (m : List ℕ) → length m ≡ 4099 → Begun from many 0 (set (set m 0 from) 1 many)
 begun-none from many m h =
-    let room′ : length (set m 0 from) ≡ 4098 = length-set m 0 from ∙ h in
+    let room′ : length (set m 0 from) ≡ 4099 = length-set m 0 from ∙ h in
     record {
       room = length-set (set m 0 from) 1 many ∙ room′;
       begins = getD-set-other (set m 0 from) 1 0 many 0 (λ q. omega arith) ∙ getD-set-same m 0 from 0 (omega arith);

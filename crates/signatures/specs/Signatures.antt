@@ -13,12 +13,23 @@ use Rattle.source_rules.specs.Brackets.{partner}
 use Rattle.source_rules.specs.Finding.{bodyAt}
 use Rattle.search.specs.Place.{Counted, bodyFrom}
 use Rattle.search.specs.declared.Counts.{Counts}
+use Rattle.windows.specs.Window.{Noted}
+use Rattle.chunks.specs.Passing.{TellsDepth}
+use Rattle.chunks.specs.Table.{Summed}
+use Rattle.chunks.specs.declared.Past.the-variants.{Depth}
 use Rattle.signatures.specs.declared.Sought.{Sought}
 use Rattle.signatures.specs.declared.Sought.the-variants.{Both, Broken}
 
 -- the partner of a round bracket, sought from a place on with so many open inside it
 abbrev pub soughtFrom : List ℕ → (at depth : ℕ) → Option ℕ
 soughtFrom s at depth = partner roundOpen roundClose depth at (drop at s)
+
+-- a search goes on behind a chunk that it passes
+pub sought-past : (s : List ℕ) (at depth d : ℕ) → TellsDepth s at depth (Depth d) → soughtFrom s at depth ≡ soughtFrom s (at + 4096) d
+sought-past s at depth d e =
+    let before : depth ≡ depth + 0 = omega arith in
+    let behind : d + 0 ≡ d = omega arith in
+    ap (soughtFrom s at) before ∙ e .2 0 ∙ ap (soughtFrom s (at + 4096)) behind
 
 -- the brace of the body behind a list that ends at a place
 abbrev pub bodyBehind : List ℕ → (closed : ℕ) → Option ℕ
@@ -48,6 +59,10 @@ pub record Told (s : List ℕ) (at first second : ℕ) : Type 0 where
   pub there : first ≢ 0 → first ≢ never → soughtFrom s at 0 ≡ some (first - 1)
   pub nowhere : first ≡ never → NoBody s at
   pub brace : first ≢ 0 → first ≢ never → second ≢ 0 → bodyBehind s (first - 1) ≡ some (second - 1)
+
+-- what is lent to searches in a text: numbers that are noted of its brackets, and the sums of its chunks
+abbrev pub Lent : (s m t : List ℕ) → Type 0
+Lent s m t = Noted (Told s) m × Summed s t
 
 -- a bracket has one partner, so the brace that is told stands behind its list
 pub told-body : (s : List ℕ) (at first second closed : ℕ) → Told s at first second → soughtFrom s at 0 ≡ some closed → first ≢ 0 → first ≢ never → second ≢ 0

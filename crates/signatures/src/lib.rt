@@ -1,5 +1,8 @@
 // The end of a list of parameters, the partner of a round bracket, and the brace that opens the body behind it. One pass over the text tells them for
 // the brackets of a part of it, and they are noted, so that lists inside one another are not each sought to their end, nor the bodies behind them.
+// A search that goes far passes chunks in which it cannot end without reading them.
+use chunks::BodyPast;
+use chunks::Past;
 use search::Counts;
 use search::Met;
 use search::Place;
@@ -7,34 +10,35 @@ use search::Reached;
 use windows::Pair;
 ghost use mathlib.Core.Path.{_≡_};
 ghost use mathlib.Core.Option.{some};
-ghost use Prim.Native.Nat.{_+_, _-_, _≤_, _<_};
+ghost use Prim.Native.Nat.{_+_, _≤_, _<_};
 ghost use lib.ListN.{length};
 ghost use Rattle.search.specs.Place.{Counted, bodyFrom, placeOf};
-ghost use Rattle.windows.specs.Window.{Noted};
+ghost use Rattle.chunks.specs.Table.{Summed};
 ghost use Rattle.bodies.specs.Bodies.{Finds};
-ghost use Rattle.signatures.specs.Filling.{Begun, Closes, Order, Unmet, Waiting, Window, setPair};
-ghost use Rattle.signatures.specs.Signatures.{Begins, Follows, Told, bodyBehind, nothingCounted, soughtFrom};
+ghost use Rattle.signatures.specs.Filling.{Begun, Closes, Order, Passed, Unmet, Window, setPair};
+ghost use Rattle.signatures.specs.Signatures.{Begins, Follows, Lent, bodyBehind, nothingCounted, soughtFrom};
 
 // The bytes in which a list is sought first, and a body: most end before that, and nothing is noted for them.
-const NEAR: usize = 512;
+const NEAR: usize = 4096;
 
 // The first number of a bracket that has no partner, or one without a body behind it.
 const NEVER: u32 = 4294967295;
 
 // The numbers of the place with an index.
-fn note(m: &mut [u32; 4098], i: u16, p: Pair)
-    requires { ⌜ (length (now m) ≡ 4098) × (i < 2048) ⌝ }
+fn note(m: &mut [u32; 4099], i: u16, p: Pair)
+    requires { ⌜ (length (now m) ≡ 4099) × (i < 2048) ⌝ }
     ensures { λ _. ⌜ now (m .exit) ≡ setPair (now (m .entry)) i (p .first) (p .second) ⌝ }
 {
     m[2 + i as usize] = p.first;
     m[2050 + i as usize] = p.second;
 }
 
-// A part of the text with no number noted yet.
-fn begin(from: usize, many: usize, m: &mut [u32; 4098])
-    requires { ⌜ (length (now m) ≡ 4098) × (many ≤ 2048) × (from < 4294967295) ⌝ }
+// A part of the text with no number noted yet, so none was of use.
+fn begin(from: usize, many: usize, m: &mut [u32; 4099])
+    requires { ⌜ (length (now m) ≡ 4099) × (many ≤ 2048) × (from < 4294967295) ⌝ }
     ensures { λ _. ⌜ Begun from many many (now (m .exit)) ⌝ }
 {
+    m[4098] = 0;
     m[0] = from as u32;
     m[1] = many as u32;
     let mut k: usize = 0;
@@ -45,10 +49,12 @@ fn begin(from: usize, many: usize, m: &mut [u32; 4098])
     }
 }
 
-// How far the pass has come: the brackets that wait, and those that are closed.
+// How far the pass has come: the brackets that wait, those that are closed, and how many from behind the part are open.
 struct Pass {
+    at: usize,
     high: usize,
     ended: usize,
+    inner: usize,
 }
 
 // The pass inside the part, up to its last byte. A closing bracket for which none waits closes one from before the part.
@@ -70,10 +76,8 @@ fn inside(
         × (length (now starts) ≡ 2048)
         ⌝ }
     ensures { λ r. ⌜
-        (r .high + r .ended ≤ many)
-        × (length (now (opens .exit)) ≡ 2048)
-        × Waiting (now (s .entry)) (now (opens .exit)) from many (from + many - 1) (r .high) 0
-        × Order (now (s .entry)) (now (owners .exit)) (now (starts .exit)) from many (from + many - 1) (r .ended)
+        (length (now (opens .exit)) ≡ 2048)
+        × Passed (now (s .entry)) (now (opens .exit)) (now (owners .exit)) (now (starts .exit)) from many r
         ⌝ }
 {
     opens[0] = 0;
@@ -96,43 +100,44 @@ fn inside(
             }
         }
     }
-    Pass { high, ended }
+    Pass {
+        at,
+        high,
+        ended,
+        inner: 0,
+    }
 }
 
-// The pass on from the last byte of the part. It ends where no bracket waits any more, and those that wait at the end of the text have no partner.
-fn behind(
+// The pass on up to a place. It ends before that where no bracket waits any more.
+fn behind_before(
     s: &[u8],
     from: usize,
     many: usize,
+    to: usize,
     p: Pass,
     opens: &[u16; 2048],
     owners: &mut [u16; 2048],
     starts: &mut [u32; 2048],
 ) -> Pass
     requires { ⌜
-        (from + many ≤ length (now s))
-        × (1 ≤ many)
+        (p .at < to)
+        × (to ≤ length (now s))
+        × (0 < p .high)
         × (many ≤ 2048)
         × (length (now s) < 4294967295)
-        × (p .high + p .ended ≤ many)
         × (length (now opens) ≡ 2048)
-        × Waiting (now s) (now opens) from many (from + many - 1) (p .high) 0
-        × Order (now s) (now owners) (now starts) from many (from + many - 1) (p .ended)
+        × Passed (now s) (now opens) (now owners) (now starts) from many p
         ⌝ }
     ensures { λ r. ⌜
-        (r .high + r .ended ≤ many)
-        × Unmet (now (s .entry)) (now (opens .entry)) from many (r .high)
-        × Order (now (s .entry)) (now (owners .exit)) (now (starts .exit)) from many (length (now (s .entry))) (r .ended)
+        (p .at < r .at)
+        × Passed (now (s .entry)) (now (opens .entry)) (now (owners .exit)) (now (starts .exit)) from many r
         ⌝ }
 {
-    let mut at = from + many - 1;
+    let mut at = p.at;
     let mut high = p.high;
     let mut ended = p.ended;
-    let mut inner: usize = 0;
-    while at < s.len() {
-        if high == 0 {
-            return Pass { high, ended };
-        }
+    let mut inner = p.inner;
+    while at < to {
         let b = s[at];
         at += 1;
         if b == b'(' {
@@ -145,10 +150,68 @@ fn behind(
                 owners[ended] = opens[high];
                 starts[ended] = at as u32;
                 ended += 1;
+                if high == 0 {
+                    return Pass {
+                        at,
+                        high,
+                        ended,
+                        inner,
+                    };
+                }
             }
         }
     }
-    Pass { high, ended }
+    Pass {
+        at,
+        high,
+        ended,
+        inner,
+    }
+}
+
+// The pass on from the last byte of the part, past chunks in which no bracket that waits is closed. It ends where none waits any more, and those that
+// wait at the end of the text have no partner.
+fn behind(
+    s: &[u8],
+    t: &[u16; 36865],
+    from: usize,
+    many: usize,
+    p: Pass,
+    opens: &[u16; 2048],
+    owners: &mut [u16; 2048],
+    starts: &mut [u32; 2048],
+) -> Pass
+    requires { ⌜
+        (many ≤ 2048)
+        × (length (now s) < 4294967295)
+        × (length (now opens) ≡ 2048)
+        × Passed (now s) (now opens) (now owners) (now starts) from many p
+        × Summed (now s) (now t)
+        ⌝ }
+    ensures { λ r. ⌜
+        (r .high + r .ended ≤ many)
+        × Unmet (now (s .entry)) (now (opens .entry)) from many (r .high)
+        × Order (now (s .entry)) (now (owners .exit)) (now (starts .exit)) from many (length (now (s .entry))) (r .ended)
+        ⌝ }
+{
+    let mut q = p;
+    while q.at < s.len() {
+        if q.high == 0 {
+            return q;
+        }
+        let past = chunks::round_past(s, t, q.at, q.inner);
+        match past {
+            Past::Depth(inner) => {
+                q.at += chunks::SIZE;
+                q.inner = inner;
+            }
+            Past::Met => {
+                let to = chunks::edge_after(q.at, s.len());
+                q = behind_before(s, from, many, to, q, opens, owners, starts);
+            }
+        }
+    }
+    q
 }
 
 // The numbers of a bracket that has no partner, or one without a body behind it.
@@ -168,7 +231,7 @@ fn note_unmet(
     many: usize,
     high: usize,
     opens: &[u16; 2048],
-    m: &mut [u32; 4098],
+    m: &mut [u32; 4099],
 )
     requires { ⌜
         (many ≤ 2048)
@@ -214,7 +277,7 @@ fn note_closed(
     owners: &[u16; 2048],
     starts: &[u32; 2048],
     numbers: &[u32; 2050],
-    m: &mut [u32; 4098],
+    m: &mut [u32; 4099],
 )
     requires { ⌜
         (many ≤ 2048)
@@ -236,13 +299,14 @@ fn note_closed(
 }
 
 // The numbers of a part. The searches for bodies begin at places that rise, and are told together.
-fn fill_part(s: &[u8], from: usize, many: usize, m: &mut [u32; 4098])
+fn fill_part(s: &[u8], t: &[u16; 36865], from: usize, many: usize, m: &mut [u32; 4099])
     requires { ⌜
         (from + many ≤ length (now s))
         × (1 ≤ many)
         × (many ≤ 2048)
         × (length (now s) < 4294967295)
         × Window (now s) from many (now m)
+        × Summed (now s) (now t)
         ⌝ }
     ensures { λ _. ⌜ Window (now (s .entry)) from many (now (m .exit)) ⌝ }
 {
@@ -250,17 +314,17 @@ fn fill_part(s: &[u8], from: usize, many: usize, m: &mut [u32; 4098])
     let mut owners = [0u16; 2048];
     let mut starts = [0u32; 2048];
     let p = inside(s, from, many, &mut opens, &mut owners, &mut starts);
-    let q = behind(s, from, many, p, &opens, &mut owners, &mut starts);
+    let q = behind(s, t, from, many, p, &opens, &mut owners, &mut starts);
     note_unmet(s, from, many, q.high, &opens, m);
     let mut numbers = [0u32; 2050];
-    bodies::note_bodies(s, &starts, q.ended, &mut numbers);
+    bodies::note_bodies(s, t, &starts, q.ended, &mut numbers);
     note_closed(s, from, many, q.ended, &owners, &starts, &numbers, m);
 }
 
 // The numbers of the part that begins at a place. In a text with places that a number does not hold none is noted.
-fn fill(s: &[u8], from: usize, m: &mut [u32; 4098])
-    requires { ⌜ (from < length (now s)) × (length (now m) ≡ 4098) ⌝ }
-    ensures { λ _. ⌜ Noted (Told (now (s .entry))) (now (m .exit)) ⌝ }
+fn fill(s: &[u8], t: &[u16; 36865], from: usize, m: &mut [u32; 4099])
+    requires { ⌜ (from < length (now s)) × (length (now m) ≡ 4099) × Summed (now s) (now t) ⌝ }
+    ensures { λ _. ⌜ Lent (now (s .entry)) (now (m .exit)) (now (t .entry)) ⌝ }
 {
     if 4294967295 <= s.len() {
         windows::clear(m);
@@ -268,29 +332,51 @@ fn fill(s: &[u8], from: usize, m: &mut [u32; 4098])
     }
     let many = search::ahead(from, windows::MOST, s.len()) - from;
     begin(from, many, m);
-    fill_part(s, from, many, m);
+    fill_part(s, t, from, many, m);
 }
 
-// Numbers are noted for a place, where many searches near it are long.
-fn look_up(s: &[u8], from: usize, m: &mut [u32; 4098])
-    requires { ⌜ (from < length (now s)) × Noted (Told (now s)) (now m) ⌝ }
-    ensures { λ _. ⌜ Noted (Told (now (s .entry))) (now (m .exit)) ⌝ }
+// Counts a search from a place that goes far. Numbers are noted for the place where many searches near it do, or where those of the part before it were
+// of use often.
+fn look_up(s: &[u8], from: usize, m: &mut [u32; 4099], t: &mut [u16; 36865])
+    requires { ⌜ (from < length (now s)) × Lent (now s) (now m) (now t) ⌝ }
+    ensures { λ _. ⌜ Lent (now (s .entry)) (now (m .exit)) (now (t .exit)) ⌝ }
 {
+    chunks::count_far(s, t);
     if windows::is_worth(m, from) {
-        fill(s, from, m);
+        fill(s, t, from, m);
     }
 }
 
-// The partner of a `(`, sought to the end of the text from a place at which so many are open inside it.
-fn far_end(s: &[u8], at: usize, depth: usize) -> Place
-    requires { ⌜ (at ≤ length (now s)) × (depth ≤ at) ⌝ }
-    ensures { λ r. ⌜ placeOf r ≡ soughtFrom (now (s .entry)) at depth ⌝ }
+// The partner of a `(`, sought to the end of the text from a place at which so many are open inside it. Chunks are passed, or read up to the next.
+fn far_end(s: &[u8], t: &[u16; 36865], from: usize, depth: usize) -> Place
+    requires { ⌜ (from ≤ length (now s)) × (depth ≤ from) × Summed (now s) (now t) ⌝ }
+    ensures { λ r. ⌜ placeOf r ≡ soughtFrom (now (s .entry)) from depth ⌝ }
 {
-    let met = search::partner_before(s, b'(', b')', at, s.len(), depth);
-    match met {
-        Met::Partner(p) => Place::At(p),
-        Met::Depth(d) => Place::Nowhere,
+    let mut at = from;
+    let mut inner = depth;
+    while at < s.len() {
+        let past = chunks::round_past(s, t, at, inner);
+        match past {
+            Past::Depth(d) => {
+                at += chunks::SIZE;
+                inner = d;
+            }
+            Past::Met => {
+                let to = chunks::edge_after(at, s.len());
+                let met = search::partner_before(s, b'(', b')', at, to, inner);
+                match met {
+                    Met::Partner(p) => {
+                        return Place::At(p);
+                    }
+                    Met::Depth(d) => {
+                        at = to;
+                        inner = d;
+                    }
+                }
+            }
+        }
     }
+    Place::Nowhere
 }
 
 fn wide(n: u32) -> usize
@@ -305,17 +391,45 @@ pub enum Sought {
     Broken,
 }
 
-// The body behind a list that ends at `closed`, sought to the end of the text from a place with what is counted up to there.
-fn far_body(s: &[u8], closed: usize, at: usize, n: Counts) -> Sought
-    requires { ⌜ (at ≤ length (now s)) × Counted n at × (bodyBehind (now s) closed ≡ bodyFrom (now s) at n) ⌝ }
+// The body behind a list that ends at `closed`, sought to the end of the text from a place with what is counted up to there. Chunks are passed, or read
+// up to the next.
+fn far_body(s: &[u8], t: &[u16; 36865], closed: usize, from: usize, n: Counts) -> Sought
+    requires { ⌜
+        (from ≤ length (now s))
+        × Counted n from
+        × (bodyBehind (now s) closed ≡ bodyFrom (now s) from n)
+        × Summed (now s) (now t)
+        ⌝ }
     ensures { λ r. ⌜ Follows (now (s .entry)) closed r ⌝ }
 {
-    let met = search::body_before(s, at, s.len(), n);
-    match met {
-        Reached::Brace(body) => Sought::Both(closed, body),
-        Reached::Ended => Sought::Broken,
-        Reached::Further(k) => Sought::Broken,
+    let mut at = from;
+    let mut counts = n;
+    while at < s.len() {
+        let past = chunks::body_past(s, t, at, counts);
+        match past {
+            BodyPast::Further(k) => {
+                at += chunks::SIZE;
+                counts = k;
+            }
+            BodyPast::Held => {
+                let to = chunks::edge_after(at, s.len());
+                let met = search::body_before(s, at, to, counts);
+                match met {
+                    Reached::Brace(body) => {
+                        return Sought::Both(closed, body);
+                    }
+                    Reached::Ended => {
+                        return Sought::Broken;
+                    }
+                    Reached::Further(k) => {
+                        at = to;
+                        counts = k;
+                    }
+                }
+            }
+        }
     }
+    Sought::Broken
 }
 
 // At the start of a search for a body nothing is counted.
@@ -330,50 +444,62 @@ fn nothing() -> Counts
 }
 
 // The body behind a list that ends at `closed`, sought to the end of the text.
-fn body_behind(s: &[u8], closed: usize) -> Sought
-    requires { ⌜ closed < length (now s) ⌝ }
+fn body_behind(s: &[u8], t: &[u16; 36865], closed: usize) -> Sought
+    requires { ⌜ (closed < length (now s)) × Summed (now s) (now t) ⌝ }
     ensures { λ r. ⌜ Follows (now (s .entry)) closed r ⌝ }
 {
-    far_body(s, closed, closed + 1, nothing())
+    far_body(s, t, closed, closed + 1, nothing())
 }
 
 // What follows a `(` before `from`, sought to the end of the text from a place at which so many are open inside it.
-fn far_list(s: &[u8], from: usize, at: usize, depth: usize) -> Sought
-    requires { ⌜ (at ≤ length (now s)) × (depth ≤ at) × (soughtFrom (now s) from 0 ≡ soughtFrom (now s) at depth) ⌝ }
+fn far_list(s: &[u8], t: &[u16; 36865], from: usize, at: usize, depth: usize) -> Sought
+    requires { ⌜
+        (at ≤ length (now s))
+        × (depth ≤ at)
+        × (soughtFrom (now s) from 0 ≡ soughtFrom (now s) at depth)
+        × Summed (now s) (now t)
+        ⌝ }
     ensures { λ r. ⌜ Begins (now (s .entry)) from r ⌝ }
 {
-    let end = far_end(s, at, depth);
+    let end = far_end(s, t, at, depth);
     match end {
-        Place::At(closed) => body_behind(s, closed),
+        Place::At(closed) => body_behind(s, t, closed),
         Place::Nowhere => Sought::Broken,
     }
 }
 
 // What follows a `(` before `from`. Its list is not closed up to the place `near`, at which so many are open inside it.
-fn noted_list(s: &[u8], from: usize, near: usize, depth: usize, m: &mut [u32; 4098]) -> Sought
+fn noted_list(
+    s: &[u8],
+    from: usize,
+    near: usize,
+    depth: usize,
+    m: &mut [u32; 4099],
+    t: &mut [u16; 36865],
+) -> Sought
     requires { ⌜
         (from ≤ near)
         × (near ≤ length (now s))
         × (depth ≤ near)
         × (soughtFrom (now s) from 0 ≡ soughtFrom (now s) near depth)
-        × Noted (Told (now s)) (now m)
+        × Lent (now s) (now m) (now t)
         ⌝ }
-    ensures { λ r. ⌜ Begins (now (s .entry)) from r × Noted (Told (now (s .entry))) (now (m .exit)) ⌝ }
+    ensures { λ r. ⌜ Begins (now (s .entry)) from r × Lent (now (s .entry)) (now (m .exit)) (now (t .exit)) ⌝ }
 {
     if near == s.len() {
         return Sought::Broken;
     }
-    look_up(s, from, m);
+    look_up(s, from, m, t);
     let p = windows::pair_at(m, from);
     if p.first == NEVER {
         return Sought::Broken;
     }
     if p.first == 0 {
-        return far_list(s, from, near, depth);
+        return far_list(s, t, from, near, depth);
     }
     let closed = wide(p.first) - 1;
     if p.second == 0 {
-        return body_behind(s, closed);
+        return body_behind(s, t, closed);
     }
     Sought::Both(closed, wide(p.second) - 1)
 }
@@ -385,7 +511,8 @@ fn noted_body(
     closed: usize,
     near: usize,
     n: Counts,
-    m: &mut [u32; 4098],
+    m: &mut [u32; 4099],
+    t: &mut [u16; 36865],
 ) -> Sought
     requires { ⌜
         (from ≤ near)
@@ -393,14 +520,14 @@ fn noted_body(
         × Counted n near
         × (soughtFrom (now s) from 0 ≡ some closed)
         × (bodyBehind (now s) closed ≡ bodyFrom (now s) near n)
-        × Noted (Told (now s)) (now m)
+        × Lent (now s) (now m) (now t)
         ⌝ }
-    ensures { λ r. ⌜ Begins (now (s .entry)) from r × Noted (Told (now (s .entry))) (now (m .exit)) ⌝ }
+    ensures { λ r. ⌜ Begins (now (s .entry)) from r × Lent (now (s .entry)) (now (m .exit)) (now (t .exit)) ⌝ }
 {
     if near == s.len() {
         return Sought::Broken;
     }
-    look_up(s, from, m);
+    look_up(s, from, m, t);
     let p = windows::pair_at(m, from);
     if p.first == NEVER {
         return Sought::Broken;
@@ -410,13 +537,19 @@ fn noted_body(
             return Sought::Both(closed, wide(p.second) - 1);
         }
     }
-    far_body(s, closed, near, n)
+    far_body(s, t, closed, near, n)
 }
 
 // What follows a `(` before `from` whose list ends at `closed`.
-fn near_body(s: &[u8], from: usize, closed: usize, m: &mut [u32; 4098]) -> Sought
-    requires { ⌜ (soughtFrom (now s) from 0 ≡ some closed) × Noted (Told (now s)) (now m) ⌝ }
-    ensures { λ r. ⌜ Begins (now (s .entry)) from r × Noted (Told (now (s .entry))) (now (m .exit)) ⌝ }
+fn near_body(
+    s: &[u8],
+    from: usize,
+    closed: usize,
+    m: &mut [u32; 4099],
+    t: &mut [u16; 36865],
+) -> Sought
+    requires { ⌜ (soughtFrom (now s) from 0 ≡ some closed) × Lent (now s) (now m) (now t) ⌝ }
+    ensures { λ r. ⌜ Begins (now (s .entry)) from r × Lent (now (s .entry)) (now (m .exit)) (now (t .exit)) ⌝ }
 {
     let behind = closed + 1;
     let near = search::ahead(behind, NEAR, s.len());
@@ -424,37 +557,40 @@ fn near_body(s: &[u8], from: usize, closed: usize, m: &mut [u32; 4098]) -> Sough
     match met {
         Reached::Brace(body) => Sought::Both(closed, body),
         Reached::Ended => Sought::Broken,
-        Reached::Further(n) => noted_body(s, from, closed, near, n, m),
+        Reached::Further(n) => noted_body(s, from, closed, near, n, m, t),
     }
 }
 
 // What follows a `(` that stands before `from`, sought nearby first.
-fn sought_after(s: &[u8], from: usize, m: &mut [u32; 4098]) -> Sought
-    requires { ⌜ (from ≤ length (now s)) × Noted (Told (now s)) (now m) ⌝ }
-    ensures { λ r. ⌜ Begins (now (s .entry)) from r × Noted (Told (now (s .entry))) (now (m .exit)) ⌝ }
+fn sought_after(s: &[u8], from: usize, m: &mut [u32; 4099], t: &mut [u16; 36865]) -> Sought
+    requires { ⌜ (from ≤ length (now s)) × Lent (now s) (now m) (now t) ⌝ }
+    ensures { λ r. ⌜ Begins (now (s .entry)) from r × Lent (now (s .entry)) (now (m .exit)) (now (t .exit)) ⌝ }
 {
     let near = search::ahead(from, NEAR, s.len());
     let met = search::partner_before(s, b'(', b')', from, near, 0);
     match met {
-        Met::Partner(closed) => near_body(s, from, closed, m),
-        Met::Depth(depth) => noted_list(s, from, near, depth, m),
+        Met::Partner(closed) => near_body(s, from, closed, m, t),
+        Met::Depth(depth) => noted_list(s, from, near, depth, m, t),
     }
 }
 
-// What follows a `(` that stands before `from`: the end of its list and the brace of its body, or not both. Where that is noted, nothing is sought.
-pub fn brackets_after(s: &[u8], from: usize, m: &mut [u32; 4098]) -> Sought
-    requires { ⌜ (from ≤ length (now s)) × Noted (Told (now s)) (now m) ⌝ }
-    ensures { λ r. ⌜ Begins (now (s .entry)) from r × Noted (Told (now (s .entry))) (now (m .exit)) ⌝ }
+// What follows a `(` that stands before `from`: the end of its list and the brace of its body, or not both. Where that is noted, nothing is sought,
+// and the use is counted.
+pub fn brackets_after(s: &[u8], from: usize, m: &mut [u32; 4099], t: &mut [u16; 36865]) -> Sought
+    requires { ⌜ (from ≤ length (now s)) × Lent (now s) (now m) (now t) ⌝ }
+    ensures { λ r. ⌜ Begins (now (s .entry)) from r × Lent (now (s .entry)) (now (m .exit)) (now (t .exit)) ⌝ }
 {
     let p = windows::pair_at(m, from);
     if p.first == NEVER {
+        windows::mark_used(m);
         return Sought::Broken;
     }
     if p.first == 0 {
-        return sought_after(s, from, m);
+        return sought_after(s, from, m, t);
     }
     if p.second == 0 {
-        return sought_after(s, from, m);
+        return sought_after(s, from, m, t);
     }
+    windows::mark_used(m);
     Sought::Both(wide(p.first) - 1, wide(p.second) - 1)
 }

@@ -14,8 +14,7 @@ ghost use lib.ListN.{length, getD};
 ghost use Rattle.text_rules.specs.Classes.{braceOpen};
 ghost use Rattle.blocks.specs.Blocks.{Every};
 ghost use Rattle.search.specs.Place.{Learned};
-ghost use Rattle.windows.specs.Window.{Noted};
-ghost use Rattle.signatures.specs.Signatures.{Told};
+ghost use Rattle.signatures.specs.Signatures.{Lent};
 ghost use Rattle.source_rules.specs.TextScan.{functions};
 ghost use Rattle.source.specs.Cursors.{Any, Barren, Blocked, Closed, FoundAt, Measures, Neither, Passed, Quieter, Ready, Signed, SpanAt, Stepped, Turned, remaining};
 
@@ -165,15 +164,21 @@ fn is_behind_braces(v: Learnt, to: usize) -> bool
 }
 
 // The brackets after a name that ends at `to`, each of them sought.
-fn signature_sought(s: &[u8], to: usize, v: Learnt, noted: &mut [u32; 4098]) -> Signature
-    requires { ⌜ Learned (now s) v × Noted (Told (now s)) (now noted) ⌝ }
-    ensures { λ r. ⌜ Signed (now (s .entry)) to r × Noted (Told (now (s .entry))) (now (noted .exit)) ⌝ }
+fn signature_sought(
+    s: &[u8],
+    to: usize,
+    v: Learnt,
+    noted: &mut [u32; 4099],
+    sums: &mut [u16; 36865],
+) -> Signature
+    requires { ⌜ Learned (now s) v × Lent (now s) (now noted) (now sums) ⌝ }
+    ensures { λ r. ⌜ Signed (now (s .entry)) to r × Lent (now (s .entry)) (now (noted .exit)) (now (sums .exit)) ⌝ }
 {
     let Place::At(opened) = search::find(s, b'(', to) else {
         return Signature::Broken(s.len(), v);
     };
     let inside = opened + 1;
-    let Sought::Both(closed, body) = signatures::brackets_after(s, inside, noted) else {
+    let Sought::Both(closed, body) = signatures::brackets_after(s, inside, noted, sums) else {
         return Signature::Broken(inside, v);
     };
     let block = block_at(s, body, v);
@@ -195,14 +200,20 @@ fn signature_sought(s: &[u8], to: usize, v: Learnt, noted: &mut [u32; 4098]) -> 
 }
 
 // The brackets after a name that ends at `to`. Behind the last `{` or the last `}` no name is a function's, and nothing is sought.
-fn signature_at(s: &[u8], to: usize, v: Learnt, noted: &mut [u32; 4098]) -> Signature
-    requires { ⌜ Learned (now s) v × Noted (Told (now s)) (now noted) ⌝ }
-    ensures { λ r. ⌜ Signed (now (s .entry)) to r × Noted (Told (now (s .entry))) (now (noted .exit)) ⌝ }
+fn signature_at(
+    s: &[u8],
+    to: usize,
+    v: Learnt,
+    noted: &mut [u32; 4099],
+    sums: &mut [u16; 36865],
+) -> Signature
+    requires { ⌜ Learned (now s) v × Lent (now s) (now noted) (now sums) ⌝ }
+    ensures { λ r. ⌜ Signed (now (s .entry)) to r × Lent (now (s .entry)) (now (noted .exit)) (now (sums .exit)) ⌝ }
 {
     if is_behind_braces(v, to) {
         return Signature::Broken(s.len(), v);
     }
-    signature_sought(s, to, v, noted)
+    signature_sought(s, to, v, noted, sums)
 }
 
 // The function on a line whose name stands from one place up to another.
@@ -351,14 +362,14 @@ pub fn start(s: &[u8]) -> Cursor
 
 impl Cursor {
     // The function whose `fn` stands at the next byte.
-    fn measure(self, s: &[u8], noted: &mut [u32; 4098]) -> Measure
+    fn measure(self, s: &[u8], noted: &mut [u32; 4099], sums: &mut [u16; 36865]) -> Measure
         requires { ⌜
             (self .at + 2 ≤ length (now s))
             × Barren (now s) (self .«barren_from») (self .«barren_to»)
             × Learned (now s) (self .learnt)
-            × Noted (Told (now s)) (now noted)
+            × Lent (now s) (now noted) (now sums)
             ⌝ }
-        ensures { λ r. ⌜ Measures (now (s .entry)) self r × Noted (Told (now (s .entry))) (now (noted .exit)) ⌝ }
+        ensures { λ r. ⌜ Measures (now (s .entry)) self r × Lent (now (s .entry)) (now (noted .exit)) (now (sums .exit)) ⌝ }
     {
         let from = search::space_end(s, self.at + 2);
         let to = search::word_end(s, from);
@@ -372,7 +383,7 @@ impl Cursor {
                 return Measure::Nothing(self.barren_from, self.barren_to, v);
             }
         }
-        let g = signature_at(s, to, v, noted);
+        let g = signature_at(s, to, v, noted, sums);
         match g {
             Signature::Broken(n, w) => Measure::Nothing(to, n, w),
             Signature::Whole(b, w) => {
@@ -428,9 +439,9 @@ impl Cursor {
     }
 
     // Past the next byte.
-    fn turn_at(self, s: &[u8], noted: &mut [u32; 4098]) -> Turn
-        requires { ⌜ (self .at < length (now s)) × Ready (now s) self × Noted (Told (now s)) (now noted) ⌝ }
-        ensures { λ r. ⌜ Turned (now (s .entry)) self r × Noted (Told (now (s .entry))) (now (noted .exit)) ⌝ }
+    fn turn_at(self, s: &[u8], noted: &mut [u32; 4099], sums: &mut [u16; 36865]) -> Turn
+        requires { ⌜ (self .at < length (now s)) × Ready (now s) self × Lent (now s) (now noted) (now sums) ⌝ }
+        ensures { λ r. ⌜ Turned (now (s .entry)) self r × Lent (now (s .entry)) (now (noted .exit)) (now (sums .exit)) ⌝ }
     {
         let at = self.at;
         let b = s[at];
@@ -454,7 +465,7 @@ impl Cursor {
         if !search::word_at(s, at) {
             return Turn::Past(c);
         }
-        let m = self.measure(s, noted);
+        let m = self.measure(s, noted, sums);
         match m {
             Measure::Nothing(from, to, v) => {
                 c.barren_from = from;
@@ -470,10 +481,10 @@ impl Cursor {
         }
     }
 
-    // The next function of the text. The array holds what is noted of the brackets that follow its names.
-    pub fn next(self, s: &[u8], noted: &mut [u32; 4098]) -> Step
-        requires { ⌜ Ready (now s) self × Noted (Told (now s)) (now noted) ⌝ }
-        ensures { λ r. ⌜ Stepped (now (s .entry)) self r × Noted (Told (now (s .entry))) (now (noted .exit)) ⌝ }
+    // The next function of the text. One array holds what is noted of the brackets that follow its names, the other the sums of its chunks.
+    pub fn next(self, s: &[u8], noted: &mut [u32; 4099], sums: &mut [u16; 36865]) -> Step
+        requires { ⌜ Ready (now s) self × Lent (now s) (now noted) (now sums) ⌝ }
+        ensures { λ r. ⌜ Stepped (now (s .entry)) self r × Lent (now (s .entry)) (now (noted .exit)) (now (sums .exit)) ⌝ }
     {
         let mut c = self;
         while c.at < s.len() {
@@ -483,7 +494,7 @@ impl Cursor {
             if c.at == s.len() {
                 return Step::End;
             }
-            let t = c.turn_at(s, noted);
+            let t = c.turn_at(s, noted, sums);
             match t {
                 Turn::Yield(f, d) => {
                     return Step::Function(f, d);

@@ -1,48 +1,31 @@
--- `bodies::angles_after` meets its contract: each byte has its law.
-use Prim.Native.Nat.{suc, _-_, _≤_, _<_}
-use mathlib.Core.Path.{_≡_, sym, subst}
+-- `bodies::angles_after` meets its contract: a `<` opens one bracket, a `>` closes one.
+use Prim.Native.Nat.{_+_}
 use native.Mathlib.Omega.{arith}
-use borrow.Author.Needs.{needs}
 use denote.Ref.{now}
-use lib.ListN.{getD}
-use Rattle.bodies.specs.Angles.{turned-empty, turned-less, turned-other, turned-pop}
+use Rattle.source_rules.specs.Finding.{angleAfter}
+use Rattle.bodies.specs.Angles.{angle-close, angle-open, angle-other, less, more, turned-as, turned-same}
+use borrow.Author.Needs.{needs}
 use Rattle.bodies.proofs.angles_after.Statement.{statement}
 use Rattle.bodies.proofs.angles_after.Tie as tie
 
 returns : tie.Need-returns
-returns c = rw (c .before .before .before .if1 .taken) (c .angle-opened .ensures)
+returns c =
+    let a = c .before .before .before .before .args in
+    turned-as (more 1) (angleAfter (a .b)) (a .w .next) (a .w .at + 1) (a .w .at + 1) _ _ _ _ _ _ (c .angles-opened .ensures) (omega arith) (angle-open (a .b) (c .before .before .before .if1 .taken))
 
 returns-2 : tie.Need-returns-2
 returns-2 c =
-    let p = c .before .before in
-    let w = p .args .w in
-    turned-other (p .args .b) (w .next) (w .at) (now (p .args .counts)) (now (p .args .sizes)) (w .height) (p .pre .1) (c .before .if1 .left) (c .if2 .taken)
+    let p = c .before .before .before .before in
+    let a = p .args in
+    turned-as (less 1) (angleAfter (a .b)) (a .w .next) (a .w .at) (a .w .at + 1) _ _ _ _ _ _ (c .angles-closed .ensures _ _ _ (p .pre .1)) (omega arith)
+    (angle-close (a .b) (c .before .before .before .if1 .left) (c .before .before .if2 .taken))
 
 returns-3 : tie.Need-returns-3
 returns-3 c =
-    let p = c .before .before .before .before in
-    let w = p .args .w in
-    turned-empty (p .args .b) (w .next) (w .at) (now (p .args .counts)) (now (p .args .sizes)) (w .height) (p .pre .1) (c .before .before .if2 .left) (c .if3 .taken)
-
-returns-4 : tie.Need-returns-4
-returns-4 c =
-    let p = c .before .before .before .before .before .before .before in
-    let w = p .args .w in
-    turned-pop (p .args .b) (w .next) (w .at) (now (p .args .counts)) (now (p .args .sizes)) (w .height) (p .pre .1) (w .height - 1)
-    (omega (arith, c .before .before .before .if3 .left)) (c .before .before .before .before .before .if2 .left) (c .if4 .taken)
-
-sub-sizes : tie.Need-sub-sizes
-sub-sizes c =
-    let p = c .before .before .before .before .before .before .before .before in
-    let l = p .pre .1 .some (p .args .w .height - 1) (omega (arith, c .before .before .before .before .if3 .left)) in
-    omega (arith, l)
-
-returns-5 : tie.Need-returns-5
-returns-5 c =
-    let p = c .before .before .before .before .before .before .before .before in
-    let w = p .args .w in
-    turned-less (p .args .b) (w .next) (w .at) (now (p .args .counts)) (now (p .args .sizes)) (w .height) (p .pre .1) (w .height - 1)
-    (omega (arith, c .before .before .before .before .if3 .left)) (c .before .before .before .before .before .before .if2 .left) (c .before .if4 .left)
+    let p = c .before .before in
+    let a = p .args in
+    turned-same (a .w .next) (a .w .at) (now (a .counts)) (now (a .sizes)) (a .w .height) (p .pre .1) (angleAfter (a .b)) (a .w .at + 1) (omega arith)
+    (angle-other (a .b) (c .before .if1 .left) (c .if2 .left))
 
 pub angles-after-spec : {M : Type 1} → statement M
 angles-after-spec =
@@ -50,15 +33,6 @@ angles-after-spec =
     (tie.spec
     (λ c κs. search needs)
     returns
+    (λ c κs. search needs)
     returns-2
-    returns-3
-    (λ c. search needs)
-    (λ c. search needs)
-    (λ c. search needs)
-    returns-4
-    (λ c. search needs)
-    (λ c. search needs)
-    sub-sizes
-    (λ c. search needs)
-    (λ c. search needs)
-    returns-5)
+    returns-3)

@@ -11,7 +11,7 @@ returns-3 c =
     let t = c .before .before .before .before in
     let f = t .before .before in
     let p = f .before .before .before in
-    inr (refl, c .note .ensures .0, omega (arith, p .pre .0, f .before .before .if1 .left), sym (f .place .ensures) ∙ t .if2 .left, c .note .ensures .1)
+    inr (omega (arith, p .pre .0, f .before .before .if1 .left), sym (f .place .ensures .0) ∙ t .if2 .left, c .note .ensures)
 
 pub begin-spec : {M : Type 1} → statement M
 begin-spec =
@@ -22,6 +22,5 @@ begin-spec =
     (λ c. search needs)
     (λ c κs. search needs)
     (λ c. inl (refl, refl, refl, refl))
-    (λ c. search needs)
     (λ c κs. search needs)
     returns-3)

@@ -9,18 +9,20 @@ use Rattle.bodies.proofs.note.Tie as tie
 
 returns-2 : tie.Need-returns-2
 returns-2 c =
-    let l = c .before .before .before in
+    let l = c .before .before .before .before .before in
     let w = l .before .args .w in
-    let z = l .level-of .ensures .0 (omega (arith, c .before .before .if1 .left)) in
+    let i = c .before .before .before .before .if1 .left in
+    let z = l .level-of .ensures .0 (omega (arith, i)) in
     let e : l .level-of .result ≡ 2048 + w .opened - w .closed = omega (arith, z) in
-    (omega arith, inr (omega (arith, z), omega (arith, e, c .before .before .if1 .left), refl, rw (sym e), rw (sym e)))
+    inr (rw (c .before .least .ensures, c .most .ensures, sym e), omega (arith, z), omega (arith, e, i), refl, rw (sym e), rw (sym e))
 
 pub note-spec : {M : Type 1} → statement M
 note-spec =
     tie.close
     (tie.spec
     (λ c κs. search needs)
-    (λ c. (omega arith, inl (refl, refl, refl)))
+    (λ c. search needs)
+    (λ c. inl (refl, refl, refl, refl))
     (λ c. search needs)
     (λ c. search needs)
     (λ c. search needs)
@@ -33,4 +35,7 @@ note-spec =
     (λ c. search needs)
     (λ c. search needs)
     (λ c. search needs)
+    (λ c. search needs)
+    (λ c κs. search needs)
+    (λ c κs. search needs)
     returns-2)

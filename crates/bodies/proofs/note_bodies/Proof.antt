@@ -20,7 +20,7 @@ walk-on-requires : tie.Need-walk-on-requires
 walk-on-requires c κs =
     let t = c .before .before .before .before .before in
     let p = t .before .before .before in
-    (p .pre .0, p .pre .1, p .pre .3 .inside 0 (omega (arith, t .before .if1 .left)), omega (arith, t .if2 .left), fresh _ (p .pre .2) (p .pre .4))
+    (p .pre .0, p .pre .1, p .pre .3 .inside 0 (omega (arith, t .before .if1 .left)), omega (arith, t .if2 .left), p .pre .5, fresh _ (p .pre .2) (p .pre .4))
 
 returns-3 : tie.Need-returns-3
 returns-3 c =

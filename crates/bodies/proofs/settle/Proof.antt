@@ -48,7 +48,7 @@ loop-again c =
     let k = p .args .level in
     let first : getD (l .loop .heads) k 0 ≡ suc j = omega (arith, v .2, t) in
     let next = c .before .wide2 .ensures .0 in (
-      omega (arith, c .one-less .ensures, v .0),
+      omega (arith, c .less .ensures, v .0),
       omega (arith, next, v .3 .links-fall j, v .1),
       next ∙ sym (getD-set-same (l .loop .heads) k _ 0 (omega (arith, p .pre .0, v .3 .heads-room))),
       popped-fits (l .loop .m) (now (p .args .links)) (l .loop .heads) k j (p .args .number) (v .3) first (p .pre .0),

@@ -1,9 +1,10 @@
 -- `signatures::begin` meets its contract: at each turn the numbers of the first k places are 0.
 use Prim.Native.Nat.{_-_, _≤_}
-use mathlib.Core.Path.{_≡_, subst}
+use mathlib.Core.Path.{_∙_, _≡_, subst}
 use native.Mathlib.Omega.{arith}
 use borrow.Author.Needs.{needs}
 use denote.Ref.{now}
+use lib.ListN.{length-set, set}
 use Rattle.signatures.specs.Filling.{Begun, begun-next, begun-none}
 use Rattle.signatures.proofs.begin.Statement.{statement}
 use Rattle.signatures.proofs.begin.Tie as tie
@@ -15,7 +16,9 @@ abbrev μ-loop : tie.MeasureT-loop
 μ-loop from many m₀ k₀ m k = many - k
 
 loop-holds : tie.Need-loop-holds Inv-loop μ-loop
-loop-holds c = let a = c .args in (omega arith, begun-none (a .from) (a .many) (now (a .m)) (c .pre .0))
+loop-holds c =
+    let a = c .args in
+    (omega arith, begun-none (a .from) (a .many) (set (now (a .m)) 4098 0) (length-set (now (a .m)) 4098 0 ∙ c .pre .0))
 
 loop-again : tie.Need-loop-again Inv-loop μ-loop
 loop-again c =
@@ -36,6 +39,7 @@ begin-spec =
     (tie.spec
     Inv-loop
     μ-loop
+    (λ c. search needs)
     (λ c. omega (arith, c .pre .2))
     (λ c. search needs)
     (λ c. omega (arith, c .pre .1))

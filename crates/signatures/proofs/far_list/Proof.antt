@@ -18,7 +18,7 @@ body-behind-requires c κs =
     let b = f .before .before in
     let a = b .args in
     let there : soughtFrom (now (a .s)) (a .from) 0 ≡ some (k .end .given .0 .0) = b .pre .2 ∙ sym (f .far-end .ensures) ∙ ap placeOf (k .end .given .1) in
-    omega (arith, partner-place (now (a .s)) (a .from) _ roundOpen roundClose there)
+    (omega (arith, partner-place (now (a .s)) (a .from) _ roundOpen roundClose there), b .pre .3)
 
 returns : tie.Need-returns
 returns c =

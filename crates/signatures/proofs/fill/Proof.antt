@@ -10,8 +10,8 @@ use Rattle.signatures.proofs.fill.Tie as tie
 
 returns : tie.Need-returns
 returns c =
-    let a = c .before .before .before .before .args in
-    noted-nothing (Told (now (a .s))) _ (c .clear .ensures .0) (c .clear .ensures .1)
+    let b = c .before .before .before .before in
+    (noted-nothing (Told (now (b .args .s))) _ (c .clear .ensures .0) (c .clear .ensures .1), b .pre .2)
 
 fill-part-requires : tie.Need-fill-part-requires
 fill-part-requires c κs =
@@ -26,10 +26,11 @@ fill-part-requires c κs =
       omega (arith, e, p .0),
       omega (arith, t .if1 .left),
       begun-window (now (s .args .s)) _ (s .args .from) _ _ (b .begin .ensures) (omega arith) (omega (arith, e, p .0)),
+      p .2,
     )
 
 returns-2 : tie.Need-returns-2
-returns-2 c = c .fill-part .ensures .noted
+returns-2 c = (c .fill-part .ensures .noted, c .before .before .before .before .before .before .before .pre .2)
 
 pub fill-spec : {M : Type 1} → statement M
 fill-spec =

@@ -19,6 +19,7 @@ note-bodies-requires c κs =
       search needs,
       order-rising (now (a .s)) _ _ _ _ _ (e .2),
       λ k h. getD-replicate 2050 (2 + k) 0 0 (omega (arith, h)),
+      t .pre .5,
     )
 
 note-closed-requires : tie.Need-note-closed-requires

@@ -11,8 +11,6 @@ use Rattle.signatures.specs.Filling.{Order, Waiting, order-later, order-
 use Rattle.signatures.proofs.inside.Statement.{statement}
 use Rattle.signatures.proofs.inside.Tie as tie
 
--- There is one bracket for each byte at most, so there is room for them.
-
 abbrev Inv-loop : tie.InvT-loop
 Inv-loop s from many opens₀ owners₀ starts₀ stop high₀ ended₀ at₀ opens owners starts high ended at =
     (from ≤ at) × (at ≤ stop) × (high + ended + from ≤ at + 1) × (length opens ≡ 2048) × Waiting s opens from many at high 0 × Order s owners starts from many at ended
@@ -108,15 +106,10 @@ loop-again-4 c =
 returns : tie.Need-returns Inv-loop μ-loop
 returns c =
     let l = c .before in
-    let a = l .before .args in
-    let p = l .before .pre in
     let i = l .loop .inv in
-    let s = now (a .s) in
-    let e : l .loop .at ≡ a .from + a .many - 1 = omega (arith, i .1) in (
-      omega (arith, i .2, e, p .1),
+    let p = l .before .pre in (
       i .3,
-      subst (λ n. Waiting s (l .loop .opens) (a .from) (a .many) n (l .loop .high) 0) e (i .4),
-      subst (λ n. Order s (l .loop .owners) (l .loop .starts) (a .from) (a .many) n (l .loop .ended)) e (i .5),
+      record { inside = omega (arith, i .1, p .0); few = omega (arith, i .1, i .2, p .1); inner-most = omega arith; waiting = i .4; order = i .5 },
     )
 
 pub inside-spec : {M : Type 1} → statement M

@@ -8,13 +8,17 @@ use Rattle.signatures.proofs.look_up.Tie as tie
 
 fill-requires : tie.Need-fill-requires
 fill-requires c κs =
-    let b = c .before .before .before .before .before in
-    (b .pre .0, noted-kept (Told (now (b .args .s))) _ _ (b .pre .1) (c .before .before .is-worth .ensures) .room)
+    let w = c .before .before .before in
+    let f = w .before .before in
+    let b = f .before .before .before in
+    (b .pre .0, noted-kept (Told (now (b .args .s))) _ _ (b .pre .1 .0) (w .is-worth .ensures) .room, f .count-far .ensures)
 
 returns-2 : tie.Need-returns-2
 returns-2 c =
-    let b = c .before .before .before .before in
-    noted-kept (Told (now (b .args .s))) _ _ (b .pre .1) (c .before .is-worth .ensures)
+    let w = c .before in
+    let f = w .before .before in
+    let b = f .before .before .before in
+    (noted-kept (Told (now (b .args .s))) _ _ (b .pre .1 .0) (w .is-worth .ensures), f .count-far .ensures)
 
 pub look-up-spec : {M : Type 1} → statement M
-look-up-spec = tie.close (tie.spec (λ c κs. search needs) fill-requires (λ c. search needs) returns-2)
+look-up-spec = tie.close (tie.spec (λ c κs. search needs) (λ c κs. search needs) fill-requires (λ c. search needs) returns-2)

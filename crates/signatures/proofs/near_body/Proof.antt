@@ -33,7 +33,7 @@ body-before-requires c κs =
 
 noted-body-requires : tie.Need-noted-body-requires
 noted-body-requires c κs =
-    let k = c .before .before in
+    let k = c .before .before .before in
     let m = k .before .before in
     let n = m .before in
     let h = n .before in

@@ -22,8 +22,8 @@ returns-2 : tie.Need-returns-2
 returns-2 c =
     let n = c .before .before in
     let l = n .before .before in
-    let a = l .before .before .before .before .args in
-    (found-told (now (a .s)) _ (a .from) _ _ (l .look-up .ensures) (n .pair-at .ensures) .nowhere (c .if2 .taken), l .look-up .ensures)
+    let a = l .before .before .before .before .before .args in
+    (found-told (now (a .s)) _ (a .from) _ _ (l .look-up .ensures .0) (n .pair-at .ensures) .nowhere (c .if2 .taken), l .look-up .ensures)
 
 returns-3 : tie.Need-returns-3
 returns-3 c =
@@ -32,17 +32,17 @@ returns-3 c =
     let o = t .before .before in
     let n = o .before .before in
     let l = n .before .before in
-    let b = l .before .before .before .before in
+    let b = l .before .before .before .before .before in
     let a = b .args in
-    let told = found-told (now (a .s)) _ (a .from) _ _ (l .look-up .ensures) (n .pair-at .ensures) in
+    let told = found-told (now (a .s)) _ (a .from) _ _ (l .look-up .ensures .0) (n .pair-at .ensures) in
     let brace = told-body (now (a .s)) (a .from) _ _ (a .closed) told (b .pre .3) (λ z. omega (arith, t .if3 .taken)) (o .if2 .left) (λ z. omega (arith, e .if4 .taken)) in
     ((b .pre .3, brace ∙ ap (λ k. some (k - 1)) (sym (c .wide .ensures))), l .look-up .ensures)
 
 returns-4 : tie.Need-returns-4
 returns-4 c =
-    let n = c .before .before .before .before .before in
+    let n = c .before .before .before .before .before .before in
     let l = n .before .before in
-    let b = l .before .before .before .before in
+    let b = l .before .before .before .before .before in
     let a = b .args in
     (follows-begins (now (a .s)) (a .from) (a .closed) (c .far-body .result) (b .pre .3) (c .far-body .ensures), l .look-up .ensures)
 

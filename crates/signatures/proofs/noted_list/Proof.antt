@@ -24,34 +24,34 @@ returns-2 : tie.Need-returns-2
 returns-2 c =
     let n = c .before .before in
     let l = n .before .before in
-    let a = l .before .before .before .before .args in
-    (found-told (now (a .s)) _ (a .from) _ _ (l .look-up .ensures) (n .pair-at .ensures) .nowhere (c .if2 .taken), l .look-up .ensures)
+    let a = l .before .before .before .before .before .args in
+    (found-told (now (a .s)) _ (a .from) _ _ (l .look-up .ensures .0) (n .pair-at .ensures) .nowhere (c .if2 .taken), l .look-up .ensures)
 
 returns-3 : tie.Need-returns-3
 returns-3 c =
-    let n = c .before .before .before .before .before in
+    let n = c .before .before .before .before .before .before in
     (c .far-list .ensures, n .before .before .look-up .ensures)
 
 body-behind-requires : tie.Need-body-behind-requires
 body-behind-requires c κs =
-    let w = c .before .before in
-    let t = w .before in
-    let o = t .before .before in
-    let n = o .before .before in
-    let l = n .before .before in
-    let a = l .before .before .before .before .args in
-    let there = found-told (now (a .s)) _ (a .from) _ _ (l .look-up .ensures) (n .pair-at .ensures) .there (t .if3 .left) (o .if2 .left) in
-    omega (arith, w .wide .ensures, partner-place (now (a .s)) (a .from) _ roundOpen roundClose there)
-
-returns-4 : tie.Need-returns-4
-returns-4 c =
     let w = c .before .before .before in
     let t = w .before in
     let o = t .before .before in
     let n = o .before .before in
     let l = n .before .before in
-    let a = l .before .before .before .before .args in
-    let there = found-told (now (a .s)) _ (a .from) _ _ (l .look-up .ensures) (n .pair-at .ensures) .there (t .if3 .left) (o .if2 .left) in
+    let a = l .before .before .before .before .before .args in
+    let there = found-told (now (a .s)) _ (a .from) _ _ (l .look-up .ensures .0) (n .pair-at .ensures) .there (t .if3 .left) (o .if2 .left) in
+    (omega (arith, w .wide .ensures, partner-place (now (a .s)) (a .from) _ roundOpen roundClose there), l .look-up .ensures .1)
+
+returns-4 : tie.Need-returns-4
+returns-4 c =
+    let w = c .before .before .before .before in
+    let t = w .before in
+    let o = t .before .before in
+    let n = o .before .before in
+    let l = n .before .before in
+    let a = l .before .before .before .before .before .args in
+    let there = found-told (now (a .s)) _ (a .from) _ _ (l .look-up .ensures .0) (n .pair-at .ensures) .there (t .if3 .left) (o .if2 .left) in
     (follows-begins (now (a .s)) (a .from) _ (c .body-behind .result) (there ∙ ap (λ k. some (k - 1)) (sym (w .wide .ensures))) (c .body-behind .ensures), l .look-up .ensures)
 
 returns-5 : tie.Need-returns-5
@@ -62,9 +62,9 @@ returns-5 c =
     let o = t .before .before in
     let n = o .before .before in
     let l = n .before .before in
-    let a = l .before .before .before .before .args in
+    let a = l .before .before .before .before .before .args in
     let s = now (a .s) in
-    let told = found-told s _ (a .from) _ _ (l .look-up .ensures) (n .pair-at .ensures) in
+    let told = found-told s _ (a .from) _ _ (l .look-up .ensures .0) (n .pair-at .ensures) in
     let there = told .there (t .if3 .left) (o .if2 .left) ∙ ap (λ k. some (k - 1)) (sym (w .wide .ensures)) in
     let brace = told .brace (t .if3 .left) (o .if2 .left) (e .if4 .left) ∙ ap (λ k. some (k - 1)) (sym (c .wide2 .ensures)) in
     ((there, subst (λ k. bodyBehind s (k - 1) ≡ some (c .wide2 .result - 1)) (sym (w .wide .ensures)) brace), l .look-up .ensures)

@@ -10,7 +10,7 @@ use Rattle.signatures.proofs.sought_after.Tie as tie
 
 near-body-requires : tie.Need-near-body-requires
 near-body-requires c κs =
-    let k = c .before .before in
+    let k = c .before .before .before in
     let m = k .before .before in
     let h = m .before in
     let b = h .before .before in
@@ -19,7 +19,7 @@ near-body-requires c κs =
 
 noted-list-requires : tie.Need-noted-list-requires
 noted-list-requires c κs =
-    let k = c .before .before in
+    let k = c .before .before .before in
     let m = k .before .before in
     let h = m .before in
     let b = h .before .before in

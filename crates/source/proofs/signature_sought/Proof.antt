@@ -54,7 +54,7 @@ add-inside c =
 
 brackets-after-requires : tie.Need-brackets-after-requires
 brackets-after-requires c κs =
-    let o = c .before .before in
+    let o = c .before .before .before in
     let f = o .before .before in
     let b = f .before .before in
     let a = b .args in
@@ -66,7 +66,7 @@ returns-2 : tie.Need-returns-2
 unfolding Barren
 returns-2 c =
     let l = c .before .before in
-    let o = l .before .before .before in
+    let o = l .before .before .before .before in
     let f = o .before .before in
     let b = f .before .before in
     let a = b .args in
@@ -82,7 +82,7 @@ block-at-requires : tie.Need-block-at-requires
 block-at-requires c κs =
     let x = c .before in
     let l = x .before .before in
-    let o = l .before .before .before in
+    let o = l .before .before .before .before in
     let f = o .before .before in
     let b = f .before .before in
     let a = b .args in
@@ -100,7 +100,7 @@ returns-3 c =
     let k = c .before .before .before in
     let x = k .before .before in
     let l = x .before .before in
-    let o = l .before .before .before in
+    let o = l .before .before .before .before in
     let f = o .before .before in
     let b = f .before .before in
     let a = b .args in
@@ -120,7 +120,7 @@ returns-4 c =
     let k = c .before .before .before in
     let x = k .before .before in
     let l = x .before .before in
-    let o = l .before .before .before in
+    let o = l .before .before .before .before in
     let f = o .before .before in
     let b = f .before .before in
     let a = b .args in

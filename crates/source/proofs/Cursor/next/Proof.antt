@@ -4,18 +4,17 @@ use mathlib.Core.Path.{_≡_, refl, subst, sym, _∙_}
 use native.Mathlib.Omega.{arith}
 use borrow.Author.Needs.{needs}
 use lib.ListN.{length}
-use Rattle.windows.specs.Window.{Noted}
-use Rattle.signatures.specs.Signatures.{Told}
+use Rattle.signatures.specs.Signatures.{Lent}
 use Rattle.source.specs.Cursors.{Passes, Ready, Turned, Yields, movedTo, remaining}
 use Rattle.source.specs.Steps.{remaining-end, yields-later}
 use Rattle.source.proofs.Cursor.next.Statement.{statement}
 use Rattle.source.proofs.Cursor.next.Tie as tie
 
 abbrev Inv-loop : tie.InvT-loop
-Inv-loop s noted₀ c₀ noted c = Ready s c × (remaining s c ≡ remaining s c₀) × (c₀ .at ≤ c .at) × Noted (Told s) noted
+Inv-loop s noted₀ sums₀ c₀ noted sums c = Ready s c × (remaining s c ≡ remaining s c₀) × (c₀ .at ≤ c .at) × Lent s noted sums
 
 abbrev μ-loop : tie.MeasureT-loop
-μ-loop s noted₀ c₀ noted c = length s - c .at
+μ-loop s noted₀ sums₀ c₀ noted sums c = length s - c .at
 
 loop-holds : tie.Need-loop-holds Inv-loop μ-loop
 loop-holds c = (c .before .pre .0, refl, omega arith, c .before .pre .1)
@@ -35,7 +34,7 @@ returns c =
 
 turn-at-requires : tie.Need-turn-at-requires Inv-loop μ-loop
 turn-at-requires c κs =
-    let i = c .before in
+    let i = c .before .before in
     let l = i .before .before .before .before .before in
     let q = i .before .before .quiet-end in
     let (ready, same) = q .ensures .passes (l .loop .c) refl refl refl refl (l .loop .inv .0) in
@@ -44,7 +43,7 @@ turn-at-requires c κs =
 returns-2 : tie.Need-returns-2 Inv-loop μ-loop
 returns-2 c =
     let t = c .before .before .before in
-    let q = t .before .before .before .before in
+    let q = t .before .before .before .before .before in
     let l = q .before .before .before in
     let b = l .before .before in
     let (ready, same) = q .quiet-end .ensures .passes (l .loop .c) refl refl refl refl (l .loop .inv .0) in
@@ -57,7 +56,7 @@ returns-2 c =
 loop-less : tie.Need-loop-less Inv-loop μ-loop
 loop-less c =
     let t = c .before .before .before in
-    let q = t .before .before .before .before in
+    let q = t .before .before .before .before .before in
     let l = q .before .before .before in
     let b = l .before .before in
     let (ready, same) = q .quiet-end .ensures .passes (l .loop .c) refl refl refl refl (l .loop .inv .0) in
@@ -68,7 +67,7 @@ loop-less c =
 loop-again : tie.Need-loop-again Inv-loop μ-loop
 loop-again c =
     let t = c .before .before .before in
-    let q = t .before .before .before .before in
+    let q = t .before .before .before .before .before in
     let l = q .before .before .before in
     let b = l .before .before in
     let (ready, same) = q .quiet-end .ensures .passes (l .loop .c) refl refl refl refl (l .loop .inv .0) in
