@@ -39,6 +39,8 @@ pub enum Input<'a> {
     Nested(&'a str, &'a str),
     /// so many of the first, one fewer of the second, and the third behind them: a brace that searches come to, most of them inside a bracket
     Behind(&'a str, &'a str, &'a str),
+    /// signatures without a body, with so many `[<>]` behind each, and a `;` behind so many of them
+    Spread(usize, usize),
 }
 
 impl Input<'_> {
@@ -54,6 +56,7 @@ impl Input<'_> {
             Input::Nested(front, back) => format!("`{front}` and as many `{back}`, 128 KB"),
             Input::Behind(front, "", tail) => format!("`{front}` to 128 KB, then `{tail}`"),
             Input::Behind(front, back, tail) => format!("`{front}` and one `{back}` fewer, 128 KB, then `{tail}`"),
+            Input::Spread(brackets, signatures) => format!("{signatures} times `fn a()` and {brackets} `[<>]`, then `;`, to 128 KB, then `{{ {{}}`"),
         }
     }
 
@@ -68,6 +71,7 @@ impl Input<'_> {
             Input::Unclosed(piece) => unclosed(piece, divisor),
             Input::Nested(front, back) => nested(front, back, divisor),
             Input::Behind(front, back, tail) => behind(front, back, tail, divisor),
+            Input::Spread(brackets, signatures) => spread(*brackets, *signatures, divisor),
         };
         load.name.insert_str(0, &self.name());
         load
@@ -211,4 +215,10 @@ fn behind(front: &str, back: &str, tail: &str, divisor: usize) -> Load {
     let deep = 128 * 1024 / (front.len() + back.len()) / divisor;
     let text = format!("{}{}{tail}", front.repeat(deep), back.repeat(deep - 1));
     Load::new("", vec![("src/a.rs".to_string(), text)], Vec::new())
+}
+
+/// Searches of a middling length: each goes on to the next `;`.
+fn spread(brackets: usize, signatures: usize, divisor: usize) -> Load {
+    let piece = format!("fn a(){}", "[<>]".repeat(brackets)).repeat(signatures) + ";";
+    behind(&piece, "", "{ {}", divisor)
 }

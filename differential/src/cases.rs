@@ -21,10 +21,11 @@ pub enum Kind {
     Broken,
     Limits,
     Huge,
+    Far,
 }
 
-pub const KINDS: [Kind; 8] =
-    [Kind::Short, Kind::Soup, Kind::Damaged, Kind::Tree, Kind::Report, Kind::Broken, Kind::Limits, Kind::Huge];
+pub const KINDS: [Kind; 9] =
+    [Kind::Short, Kind::Soup, Kind::Damaged, Kind::Tree, Kind::Report, Kind::Broken, Kind::Limits, Kind::Huge, Kind::Far];
 
 impl Kind {
     pub fn of(case: usize) -> Kind {
@@ -32,6 +33,7 @@ impl Kind {
             // six of them take a second each
             k if k % 250_000 < 6_000 && k % 1_000 == 595 => Kind::Huge,
             k if k % 2_000 == 1_999 => Kind::Limits,
+            k if k % 5_000 == 333 => Kind::Far,
             k => match k % 100 {
                 0..=29 => Kind::Short,
                 30..=54 => Kind::Soup,
@@ -53,6 +55,7 @@ impl Kind {
             Kind::Broken => "broken trees",
             Kind::Limits => "trees at the limits",
             Kind::Huge => "inputs at the longest",
+            Kind::Far => "long texts of brackets",
         }
     }
 }
@@ -93,6 +96,7 @@ pub fn subject(kind: Kind, seed: u64, case: usize, sources: &Sources) -> (Subjec
             limits(r, case / 2_000, one_more)
         }
         Kind::Huge => huge(r, case % 250_000 / 1_000),
+        Kind::Far => Subject::Text(far(r).into_bytes()),
     };
     (subject, random)
 }
@@ -137,6 +141,36 @@ fn short(k: usize) -> String {
     }
     middle.reverse();
     format!("{before}{}{behind}", middle.concat())
+}
+
+/// Signatures and brackets, few of which end a search.
+#[rustfmt::skip]
+const FAR: &[&str] = &[
+    "fn a(", "fn a()", "fn a()[", "fn a()<", "[fn a()", "<fn a()", "fn a(fn b()", "[fn a()]", "<fn a()>", "fn a() ", "fn a()->", "(", ")", "[", "]", "<",
+    ">", "[]", "<>", "x", "\n",
+];
+
+const ENDS: &[&str] = &[";", "{", "}", "{}", "[;]", "];[", "<;>", "[{}]", ">{}<", ");", "]{}", "fn b(){}"];
+
+/// A long text in which lists end and bodies begin far behind their signatures: pieces again and again, closing brackets, and soups.
+fn far(r: &mut Random) -> String {
+    let mut text = String::new();
+    let size = r.between(9_000, 40_000);
+    let ends = r.below(4);
+    while text.len() < size {
+        let unit: String = (0..r.between(1, 4)).map(|_| if r.chance(ends) { r.pick(ENDS) } else { r.pick(FAR) }).collect();
+        let times = if r.chance(50) { r.between(1, 20) } else { r.between(20, 1_500) };
+        text.push_str(&unit.repeat(times.min(16_000 / unit.len())));
+        if r.chance(50) {
+            let closing = r.pick(&[")", "]", ">", ")]", ">]", ")>"]);
+            text.push_str(&closing.repeat(times));
+        }
+        if r.chance(30) {
+            text.push_str(r.pick(ENDS));
+        }
+    }
+    text.push_str(r.pick(&["", ";fn b(){}", "{}", "{ {}", "]]{}", "}", ">>>{}", ")))){}"]));
+    text
 }
 
 /// A real file or a part of it: bytes taken out, doubled, swapped, cut, tokens put in.
