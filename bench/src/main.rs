@@ -166,6 +166,7 @@ fn rows(real: &Real) -> Vec<(Input<'_>, Call)> {
         rows.extend(all.map(|call| (Input::Real(real, size), call)));
     }
     rows.push((Input::OneBody(real), Call::Scan));
+    rows.extend([10, 100, 1_000].map(|each| (Input::Damaged(real, each), Call::Scan)));
     for over in [false, true] {
         rows.extend(whole.iter().map(|&call| (Input::Tiny { over }, call)));
     }

@@ -19,6 +19,8 @@ pub enum Input<'a> {
     /// real Rust of this many bytes
     Real(&'a Real, usize),
     OneBody(&'a Real),
+    /// real Rust in one file, without every nth bracket
+    Damaged(&'a Real, usize),
     Tiny {
         over: bool,
     },
@@ -48,6 +50,7 @@ impl Input<'_> {
         match self {
             Input::Real(_, size) => format!("real Rust, {} MB", *size as f64 / 1e6),
             Input::OneBody(_) => "real Rust in one body, 1 MB".to_string(),
+            Input::Damaged(_, each) => format!("real Rust in one file without one bracket in {each}, 0.25 MB"),
             Input::Tiny { over } => format!("8,192 tiny functions, {} over", if *over { "all" } else { "none" }),
             Input::Files { renamed } => format!("1,024 files of eight functions, all over{}", if *renamed { ", folder renamed" } else { "" }),
             Input::Alive { ordered } => format!("8,192 baseline lines, all alive{}", order(*ordered)),
@@ -64,6 +67,7 @@ impl Input<'_> {
         let mut load = match self {
             Input::Real(files, size) => real(files, *size, divisor),
             Input::OneBody(files) => one_body(files, divisor),
+            Input::Damaged(files, each) => damaged(files, *each, divisor),
             Input::Tiny { over } => tiny(*over, divisor),
             Input::Files { renamed } => files(*renamed, divisor),
             Input::Alive { ordered } => alive(*ordered, divisor),
@@ -137,6 +141,26 @@ fn real(real: &Real, size: usize, divisor: usize) -> Load {
 fn one_body(real: &Real, divisor: usize) -> Load {
     let all: String = real.files.iter().map(|file| file.0.as_str()).collect();
     let text = format!("fn all() {{\n{}\n}}\n", all.repeat(1_000_000 / divisor / all.len() + 1));
+    Load::new("", vec![("src/a.rs".to_string(), text)], Vec::new())
+}
+
+/// Real Rust as it may stand in an editor: brackets are missing, so that lists and bodies end elsewhere or nowhere.
+fn damaged(real: &Real, each: usize, divisor: usize) -> Load {
+    let mut brackets = 0;
+    let mut text = String::new();
+    let all = real.files.iter().cycle().flat_map(|file| file.0.chars());
+    for c in all {
+        if text.len() >= 250_000 / divisor {
+            break;
+        }
+        if "()[]{}".contains(c) {
+            brackets += 1;
+            if brackets % each == 0 {
+                continue;
+            }
+        }
+        text.push(c);
+    }
     Load::new("", vec![("src/a.rs".to_string(), text)], Vec::new())
 }
 
