@@ -1,10 +1,9 @@
--- `source::pass_all` meets its contract: each turn counts the lines of the bytes that it passes, sixteen or one.
+-- `passing::pass_all` meets its contract: each turn counts the lines of the bytes that it passes, sixteen or one.
 use Prim.Native.Nat.{_-_, _≤_, _+_}
 use native.Mathlib.Omega.{arith}
-use Rattle.source.specs.Cursors.{Any, Passed}
-use Rattle.source.specs.Steps.{passed-block, passed-byte, passed-more, passed-none}
-use Rattle.source.proofs.pass_all.Statement.{statement}
-use Rattle.source.proofs.pass_all.Tie as tie
+use Rattle.passing.specs.Passing.{Any, Passed, passed-block, passed-byte, passed-more, passed-none}
+use Rattle.passing.proofs.pass_all.Statement.{statement}
+use Rattle.passing.proofs.pass_all.Tie as tie
 
 abbrev Inv-loop : tie.InvT-loop
 Inv-loop s from start to at₀ line₀ at line = Passed Any s from start to (record { at = at; line = line }) × (line ≤ at + 1)

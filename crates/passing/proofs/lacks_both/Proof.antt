@@ -1,11 +1,11 @@
--- `source::lacks_both` meets its contract: it tells so only where the block lacks each of the two bytes.
+-- `passing::lacks_both` meets its contract: it tells so only where the block lacks each of the two bytes.
 use mathlib.Core.Path.{refl, sym, _∙_}
 use mathlib.Core.Bool.{false}
 use borrow.Author.Needs.{needs}
 use borrow.Author.Tests.{not-false}
 use Rattle.text_rules.specs.BytesLaws.{true-false}
-use Rattle.source.proofs.lacks_both.Statement.{statement}
-use Rattle.source.proofs.lacks_both.Tie as tie
+use Rattle.passing.proofs.lacks_both.Statement.{statement}
+use Rattle.passing.proofs.lacks_both.Tie as tie
 
 returns-2 : tie.Need-returns-2
 returns-2 c =

@@ -1,9 +1,8 @@
--- `source::pass_others` meets its contract: what the second loop passes follows what the first has passed.
+-- `passing::pass_others` meets its contract: what the second loop passes follows what the first has passed.
 use borrow.Author.Needs.{needs}
-use Rattle.source.specs.Cursors.{Neither}
-use Rattle.source.specs.Steps.{passed-line, passed-more}
-use Rattle.source.proofs.pass_others.Statement.{statement}
-use Rattle.source.proofs.pass_others.Tie as tie
+use Rattle.passing.specs.Passing.{Neither, passed-line, passed-more}
+use Rattle.passing.proofs.pass_others.Statement.{statement}
+use Rattle.passing.proofs.pass_others.Tie as tie
 
 pass-bytes-requires : tie.Need-pass-bytes-requires
 pass-bytes-requires c κs =
