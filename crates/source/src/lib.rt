@@ -14,7 +14,7 @@ ghost use Prim.Native.Nat.{_+_, _≤_, _<_};
 ghost use lib.ListN.{length, getD};
 ghost use Rattle.text_rules.specs.Classes.{braceOpen};
 ghost use Rattle.search.specs.Place.{Learned};
-ghost use Rattle.signatures.specs.Signatures.{Lent};
+ghost use Rattle.parts.specs.Told.{Lent};
 ghost use Rattle.source_rules.specs.TextScan.{functions};
 ghost use Rattle.source.specs.Cursors.{Barren, Blocked, Closed, FoundAt, Measures, Quieter, Ready, Signed, SpanAt, Stepped, Turned, remaining};
 

@@ -1,10 +1,10 @@
--- `signatures::behind_before` meets its contract: at each turn those that wait are sought on with `inner` more open inside them.
+-- `parts::behind_before` meets its contract: at each turn those that wait are sought on with `inner` more open inside them.
 use Prim.Native.Nat.{_-_, _<_, _≤_}
 use native.Mathlib.Omega.{arith}
 use borrow.Author.Needs.{needs}
-use Rattle.signatures.specs.Filling.{Passed, passAt, passed-close, passed-met, passed-open, passed-other}
-use Rattle.signatures.proofs.behind_before.Statement.{statement}
-use Rattle.signatures.proofs.behind_before.Tie as tie
+use Rattle.parts.specs.Filling.{Passed, passAt, passed-close, passed-met, passed-open, passed-other}
+use Rattle.parts.proofs.behind_before.Statement.{statement}
+use Rattle.parts.proofs.behind_before.Tie as tie
 
 abbrev Inv-loop : tie.InvT-loop
 Inv-loop s from many to opens owners₀ starts₀ at₀ high₀ ended₀ inner₀ owners starts at high ended inner = (at₀ ≤ at) × (at ≤ to) × (0 < high) × Passed s opens owners starts from many (passAt at high ended inner)

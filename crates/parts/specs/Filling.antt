@@ -15,12 +15,12 @@ use Rattle.text_rules.specs.BytesLaws.{whether}
 use Rattle.text_rules.specs.Classes.{roundClose, roundOpen}
 use Rattle.source_rules.specs.Finding.{bodyAt}
 use Rattle.source_rules.specs.WalkSteps.{partner-close, partner-end, partner-found, partner-open, partner-other}
-use Rattle.windows.specs.Window.{Found, Noted, found-tells}
+use Rattle.windows.specs.Window.{Noted}
 use Rattle.chunks.specs.Passing.{TellsDepth}
 use Rattle.chunks.specs.declared.Past.the-variants.{Depth}
 use Rattle.bodies.specs.Bodies.{Rising}
-use Rattle.signatures.specs.declared.Pass.{Pass}
-use Rattle.signatures.specs.Signatures.{Told, bodyBehind, never, no-brace, no-end, soughtFrom}
+use Rattle.parts.specs.declared.Pass.{Pass}
+use Rattle.parts.specs.Told.{Told, bodyBehind, never, no-brace, no-end, soughtFrom, told-zero}
 
 -- at a place `high` brackets wait: each is sought on with those above it and `inner` more open inside it
 pub record Waiting (s opens : List ℕ) (from many at high inner : ℕ) : Type 0 where
@@ -316,9 +316,6 @@ order-rising s owners starts from many ended o = record { rising = o .rising; in
 pub told-unmet : (s : List ℕ) (at first second : ℕ) → soughtFrom s at 0 ≡ none → first ≡ never → Told s at first second
 told-unmet s at first second e n = record { there = λ z m. absurd (m n); nowhere = λ q. no-end e; brace = λ z m. absurd (m n) }
 
-told-zero : (s : List ℕ) (at first second : ℕ) → first ≡ 0 → Told s at first second
-told-zero s at first second z = record { there = λ n m. absurd (n z); nowhere = λ q. absurd (omega arith); brace = λ n m. absurd (n z) }
-
 -- a bracket that is closed before a place: the place, and where a body begins, or that none does
 module _ (s : List ℕ) (from many index start found first second : ℕ) (c : ClosedBefore s from many index start) (h : start < never) where
   back : start ≡ start - 1 + 1
@@ -343,10 +340,6 @@ module _ (s : List ℕ) (from many index start found first second : ℕ) (c : Cl
       }
   told-closed vain there (not-known e z) = started e (λ n. absurd (n z))
   told-closed vain there (body-there l e b) = let same : found - 3 ≡ second - 1 = omega (arith, b) in started e (λ n. there l ∙ ap some same)
-
--- what numbers that are read tell
-pub found-told : (s m : List ℕ) (at first second : ℕ) → Noted (Told s) m → Found m at first second → Told s at first second
-found-told s m at first second n f = ⊎-elim (λ z. told-zero s at first second (z .0)) (λ p. p) (found-tells (Told s) m at first second n f)
 
 -- the numbers of one place are set
 pub window-set : (s m : List ℕ) (from many i first second : ℕ) → Window s from many m → i < many → Told s (from + i) first second

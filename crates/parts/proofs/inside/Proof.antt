@@ -1,4 +1,4 @@
--- `signatures::inside` meets its contract: at each turn the brackets before `at` without a partner up to there wait, and the others are written down.
+-- `parts::inside` meets its contract: at each turn the brackets before `at` without a partner up to there wait, and the others are written down.
 -- There is one bracket for each byte at most, so there is room for them.
 use Prim.Native.Nat.{_+_, _-_, _≤_}
 use mathlib.Core.Path.{_∙_, _≡_, refl, subst}
@@ -7,9 +7,9 @@ use borrow.Author.Needs.{needs}
 use denote.Ref.{now}
 use lib.ListN.{length, length-set, set}
 use lib.Seq.{getD-set-same}
-use Rattle.signatures.specs.Filling.{Order, Waiting, order-later, order-met, order-none, waiting-first, waiting-other, waiting-pop, waiting-push}
-use Rattle.signatures.proofs.inside.Statement.{statement}
-use Rattle.signatures.proofs.inside.Tie as tie
+use Rattle.parts.specs.Filling.{Order, Waiting, order-later, order-met, order-none, waiting-first, waiting-other, waiting-pop, waiting-push}
+use Rattle.parts.proofs.inside.Statement.{statement}
+use Rattle.parts.proofs.inside.Tie as tie
 
 abbrev Inv-loop : tie.InvT-loop
 Inv-loop s from many opens₀ owners₀ starts₀ stop high₀ ended₀ at₀ opens owners starts high ended at =

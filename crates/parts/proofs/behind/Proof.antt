@@ -1,4 +1,4 @@
--- `signatures::behind` meets its contract: at each turn the pass comes further, by a chunk or up to the next one.
+-- `parts::behind` meets its contract: at each turn the pass comes further, by a chunk or up to the next one.
 use Prim.Native.Nat.{_-_}
 use mathlib.Core.Path.{subst}
 use mathlib.Core.Logic.{inl, inr}
@@ -7,9 +7,9 @@ use borrow.Author.Needs.{needs}
 use denote.Ref.{now}
 use lib.ListN.{length}
 use Rattle.chunks.specs.Passing.{TellsDepth}
-use Rattle.signatures.specs.Filling.{Passed, passed-chunk, passed-end}
-use Rattle.signatures.proofs.behind.Statement.{statement}
-use Rattle.signatures.proofs.behind.Tie as tie
+use Rattle.parts.specs.Filling.{Passed, passed-chunk, passed-end}
+use Rattle.parts.proofs.behind.Statement.{statement}
+use Rattle.parts.proofs.behind.Tie as tie
 
 abbrev Inv-loop : tie.InvT-loop
 Inv-loop s t from many opens owners₀ starts₀ q₀ owners starts q = Passed s opens owners starts from many q

@@ -1,4 +1,4 @@
--- `signatures::note_closed` meets its contract: the numbers that are set tell of a bracket where it is closed and where a body begins
+-- `parts::note_closed` meets its contract: the numbers that are set tell of a bracket where it is closed and where a body begins
 -- behind it, or that none does.
 use Prim.Native.Nat.{_+_, _-_, _<_, _≤_}
 use mathlib.Core.Path.{subst, sym}
@@ -6,9 +6,9 @@ use native.Mathlib.Omega.{arith}
 use borrow.Author.Needs.{needs}
 use denote.Ref.{now}
 use lib.ListN.{getD}
-use Rattle.signatures.specs.Filling.{Window, told-closed, window-set}
-use Rattle.signatures.proofs.note_closed.Statement.{statement}
-use Rattle.signatures.proofs.note_closed.Tie as tie
+use Rattle.parts.specs.Filling.{Window, told-closed, window-set}
+use Rattle.parts.proofs.note_closed.Statement.{statement}
+use Rattle.parts.proofs.note_closed.Tie as tie
 
 abbrev Inv-loop : tie.InvT-loop
 Inv-loop s from many ended owners starts numbers m₀ k₀ m k = (k ≤ ended) × Window s from many m

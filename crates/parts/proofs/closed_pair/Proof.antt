@@ -1,10 +1,10 @@
--- `signatures::closed_pair` meets its contract, by its three cases.
+-- `parts::closed_pair` meets its contract, by its three cases.
 use mathlib.Core.Path.{refl}
 use native.Mathlib.Omega.{arith}
 use borrow.Author.Needs.{needs}
-use Rattle.signatures.specs.Filling.{body-there, no-body, not-known}
-use Rattle.signatures.proofs.closed_pair.Statement.{statement}
-use Rattle.signatures.proofs.closed_pair.Tie as tie
+use Rattle.parts.specs.Filling.{body-there, no-body, not-known}
+use Rattle.parts.proofs.closed_pair.Statement.{statement}
+use Rattle.parts.proofs.closed_pair.Tie as tie
 
 returns : tie.Need-returns
 returns c = no-body (c .before .if1 .taken) (c .broken .ensures)

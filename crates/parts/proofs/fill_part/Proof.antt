@@ -1,12 +1,12 @@
--- `signatures::fill_part` meets its contract: the places behind the brackets that are closed rise, so the searches for bodies that begin there are told.
+-- `parts::fill_part` meets its contract: the places behind the brackets that are closed rise, so the searches for bodies that begin there are told.
 use native.Mathlib.Omega.{arith}
 use borrow.Author.Needs.{needs}
 use denote.Ref.{now}
 use Prim.Native.Nat.{_+_}
 use lib.ListN.{getD-replicate}
-use Rattle.signatures.specs.Filling.{order-rising}
-use Rattle.signatures.proofs.fill_part.Statement.{statement}
-use Rattle.signatures.proofs.fill_part.Tie as tie
+use Rattle.parts.specs.Filling.{order-rising}
+use Rattle.parts.proofs.fill_part.Statement.{statement}
+use Rattle.parts.proofs.fill_part.Tie as tie
 
 note-bodies-requires : tie.Need-note-bodies-requires
 note-bodies-requires c κs =

@@ -1,13 +1,13 @@
--- `signatures::note_unmet` meets its contract: the numbers that are set tell of brackets without a partner.
+-- `parts::note_unmet` meets its contract: the numbers that are set tell of brackets without a partner.
 use Prim.Native.Nat.{_+_, _-_, _≤_}
 use mathlib.Core.Path.{subst, sym}
 use native.Mathlib.Omega.{arith}
 use borrow.Author.Needs.{needs}
 use denote.Ref.{now}
 use lib.ListN.{getD}
-use Rattle.signatures.specs.Filling.{Window, told-unmet, window-set}
-use Rattle.signatures.proofs.note_unmet.Statement.{statement}
-use Rattle.signatures.proofs.note_unmet.Tie as tie
+use Rattle.parts.specs.Filling.{Window, told-unmet, window-set}
+use Rattle.parts.proofs.note_unmet.Statement.{statement}
+use Rattle.parts.proofs.note_unmet.Tie as tie
 
 abbrev Inv-loop : tie.InvT-loop
 Inv-loop s from many high opens m₀ k₀ m k = (k ≤ high) × Window s from many m

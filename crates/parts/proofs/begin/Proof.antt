@@ -1,13 +1,13 @@
--- `signatures::begin` meets its contract: at each turn the numbers of the first k places are 0.
+-- `parts::begin` meets its contract: at each turn the numbers of the first k places are 0.
 use Prim.Native.Nat.{_-_, _≤_}
 use mathlib.Core.Path.{_∙_, _≡_, subst}
 use native.Mathlib.Omega.{arith}
 use borrow.Author.Needs.{needs}
 use denote.Ref.{now}
 use lib.ListN.{length-set, set}
-use Rattle.signatures.specs.Filling.{Begun, begun-next, begun-none}
-use Rattle.signatures.proofs.begin.Statement.{statement}
-use Rattle.signatures.proofs.begin.Tie as tie
+use Rattle.parts.specs.Filling.{Begun, begun-next, begun-none}
+use Rattle.parts.proofs.begin.Statement.{statement}
+use Rattle.parts.proofs.begin.Tie as tie
 
 abbrev Inv-loop : tie.InvT-loop
 Inv-loop from many m₀ k₀ m k = (k ≤ many) × Begun from many k m

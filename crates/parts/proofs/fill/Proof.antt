@@ -1,12 +1,12 @@
--- `signatures::fill` meets its contract: the numbers are 0 at first and tell nothing, and those that are set tell what they must.
+-- `parts::fill` meets its contract: the numbers are 0 at first and tell nothing, and those that are set tell what they must.
 use native.Mathlib.Omega.{arith}
 use borrow.Author.Needs.{needs}
 use denote.Ref.{now}
 use Rattle.windows.specs.Window.{noted-nothing}
-use Rattle.signatures.specs.Filling.{begun-window}
-use Rattle.signatures.specs.Signatures.{Told}
-use Rattle.signatures.proofs.fill.Statement.{statement}
-use Rattle.signatures.proofs.fill.Tie as tie
+use Rattle.parts.specs.Filling.{begun-window}
+use Rattle.parts.specs.Told.{Told}
+use Rattle.parts.proofs.fill.Statement.{statement}
+use Rattle.parts.proofs.fill.Tie as tie
 
 returns : tie.Need-returns
 returns c =
