@@ -1,12 +1,12 @@
--- `bodies::boundary` meets its contract: the last group has the highest count.
+-- `angles::boundary` meets its contract: the last group has the highest count.
 use Prim.Native.Nat.{_-_}
 use mathlib.Core.Path.{sym, _∙_}
 use native.Mathlib.Omega.{arith}
 use borrow.Author.Needs.{needs}
 use denote.Ref.{now}
-use Rattle.bodies.specs.Angles.{boundary-empty, boundary-top}
-use Rattle.bodies.proofs.boundary.Statement.{statement}
-use Rattle.bodies.proofs.boundary.Tie as tie
+use Rattle.angles.specs.Angles.{boundary-empty, boundary-top}
+use Rattle.angles.proofs.boundary.Statement.{statement}
+use Rattle.angles.proofs.boundary.Tie as tie
 
 returns : tie.Need-returns
 returns c = sym (boundary-empty (now (c .before .args .counts)) (c .before .args .height) (c .if1 .taken))

@@ -1,14 +1,14 @@
--- `bodies::angles_closed` meets its contract: each turn closes the last group, while it has no more brackets than are left to be closed.
+-- `angles::angles_closed` meets its contract: each turn closes the last group, while it has no more brackets than are left to be closed.
 use Prim.Native.Nat.{ℕ, _-_, _≤_}
 use mathlib.Core.Path.{_≡_}
 use mathlib.Core.List.{List}
 use native.Mathlib.Omega.{arith}
 use denote.Ref.{now}
 use lib.ListN.{length}
-use Rattle.bodies.specs.Angles.{Closing, Stack, closing-all, closing-group, closing-rest, less, turned-empty, turned-less, turned-same}
+use Rattle.angles.specs.Angles.{Closing, Stack, closing-all, closing-group, closing-rest, less, turned-empty, turned-less, turned-same}
 use borrow.Author.Needs.{needs}
-use Rattle.bodies.proofs.angles_closed.Statement.{statement}
-use Rattle.bodies.proofs.angles_closed.Tie as tie
+use Rattle.angles.proofs.angles_closed.Statement.{statement}
+use Rattle.angles.proofs.angles_closed.Tie as tie
 
 abbrev Inv-loop : tie.InvT-loop
 Inv-loop n height sizes₀ left₀ rest₀ sizes left rest =

@@ -2,19 +2,21 @@
 -- how many of its brackets are open. A search is inside the brackets of the groups whose count is above its index.
 use Prim.Native.Nat.{ℕ, zero, suc, _+_, _-_, _≤_, _<_}
 use mathlib.Core.Path.{_≡_, refl, ap, sym, _∙_}
-use mathlib.Core.Logic.{_≢_, inl, inr}
+use mathlib.Core.Logic.{_⊎_, _≢_, inl, inr}
 use mathlib.Core.List.{List}
 use native.Mathlib.Numerals.{add-one, sub-one}
 use native.Mathlib.Omega.{arith}
-use borrow.Author.Tests.{eq-eqb, le-leb, leb-false, leb-true, lt-leb, ne-eqb}
-use lib.Dec.{leb}
+use borrow.Author.Tests.{eq-eqb, eqb-false, eqb-true, le-leb, leb-false, leb-true, lt-leb, ne-eqb}
+use lib.Dec.{eqb, leb}
 use lib.ListN.{length, getD, set, length-set}
 use lib.Seq.{getD-set-other, getD-set-same}
 use Rattle.text_rules.specs.Bytes.{if_then_else_}
 use Rattle.text_rules.specs.BytesLaws.{whether}
 use Rattle.text_rules.specs.Classes.{angleClose, angleOpen}
 use Rattle.source_rules.specs.Finding.{angleAfter}
-use Rattle.bodies.specs.Chain.{same-or-not}
+
+pub same-or-not : (i j : ℕ) → (i ≡ j) ⊎ (i ≢ j)
+same-or-not i j = elim (whether (eqb i j)) [ inl e ↦ inl (eqb-true i j e) | inr e ↦ inr (eqb-false i j e) ]
 
 -- how many open brackets the search of an index is inside
 unfoldable pub above : (counts sizes : List ℕ) → (height i : ℕ) → ℕ
