@@ -2,14 +2,12 @@
 -- the last one first. An index in a chain is told by one more than itself, so that 0 is the end of the chain.
 use Prim.Native.Nat.{ℕ, zero, suc, _+_, _≤_, _<_}
 use mathlib.Core.Path.{_≡_, refl, ap, subst, sym, _∙_}
-use mathlib.Core.Logic.{_⊎_, _≢_, inl, inr}
+use mathlib.Core.Logic.{_≢_, inl, inr}
 use mathlib.Core.List.{List}
 use native.Mathlib.Omega.{arith}
-use borrow.Author.Tests.{eqb-false, eqb-true}
-use lib.Dec.{eqb}
 use lib.ListN.{length, getD, set, length-set}
 use lib.Seq.{getD-set-other, getD-set-same}
-use Rattle.text_rules.specs.BytesLaws.{whether}
+use Rattle.angles.specs.Angles.{same-or-not}
 
 abbrev pub Pending : List ℕ → ℕ → Type 0
 Pending m i = getD m (2 + i) 0 ≡ 1
@@ -29,9 +27,6 @@ pub record Chain (level : ℕ → ℕ) (m links heads : List ℕ) : Type 0 where
   pub heads-is : (k j : ℕ) → getD heads k 0 ≡ suc j → Pending m j × (level j ≡ k)
   pub links-last : (i j : ℕ) → Pending m i → Pending m j → i < j → level i ≡ level j → i < getD links j 0
   pub links-is : (j k : ℕ) → Pending m j → getD links j 0 ≡ suc k → Pending m k × (level k ≡ level j)
-
-pub same-or-not : (i j : ℕ) → (i ≡ j) ⊎ (i ≢ j)
-same-or-not i j = elim (whether (eqb i j)) [ inl e ↦ inl (eqb-true i j e) | inr e ↦ inr (eqb-false i j e) ]
 
 -- one number is set
 module _ (m : List ℕ) (j v : ℕ) where

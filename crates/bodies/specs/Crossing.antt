@@ -10,7 +10,7 @@ use Rattle.source_rules.specs.Finding.{bodyAt}
 use Rattle.blocks.specs.Blocks.{count-most, count-sum, countFrom}
 use Rattle.chunks.specs.Passing.{Misses, Summary}
 use Rattle.chunks.specs.declared.Chunk.{Chunk}
-use Rattle.bodies.specs.Angles.{Turned, above, less, more}
+use Rattle.angles.specs.Angles.{Turned, above, less, more}
 use Rattle.bodies.specs.Chain.{Pending}
 use Rattle.bodies.specs.Walking.{Kept, Tracks, closedBefore, levelOf, openedBefore}
 use Rattle.bodies.specs.declared.Walk.{Walk}

@@ -1,5 +1,4 @@
 -- What is noted of searches for a body.
-pub mod Angles
 pub mod Bodies
 pub mod Chain
 pub mod Crossing

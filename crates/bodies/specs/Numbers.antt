@@ -10,7 +10,8 @@ use lib.ListN.{length, getD, set, replicate, getD-replicate, length-replicate, l
 use lib.Seq.{getD-set-other, getD-set-same}
 use Rattle.text_rules.specs.BytesLaws.{whether}
 use Rattle.bodies.specs.Bodies.{Finds}
-use Rattle.bodies.specs.Chain.{Pending, same-or-not, set-elsewhere, set-there, still-pending}
+use Rattle.angles.specs.Angles.{same-or-not}
+use Rattle.bodies.specs.Chain.{Pending, set-elsewhere, set-there, still-pending}
 use Rattle.bodies.specs.Walking.{Fresh, Rest, Rests, Tells, Told, sought, tells-none}
 
 -- a list of zeros has no other number

@@ -9,8 +9,7 @@ use lib.ListN.{length, getD}
 use Rattle.text_rules.specs.Classes.{angleClose, angleOpen, braceOpen, semicolon, squareClose, squareOpen}
 use Rattle.text_rules.specs.Search.{countAfter}
 use Rattle.source_rules.specs.Finding.{angleAfter}
-use Rattle.bodies.specs.Angles.{angle-other, turned-same}
-use Rattle.bodies.specs.Chain.{same-or-not}
+use Rattle.angles.specs.Angles.{angle-other, same-or-not, turned-same}
 use Rattle.bodies.specs.Walking.{Ends, Kept, ended-other, kept-further, levelOf}
 use Rattle.bodies.specs.declared.Walk.{Walk}
 

@@ -5,7 +5,8 @@ use mathlib.Core.Logic.{_⊎_, _≢_, inl, inr}
 use mathlib.Core.List.{List}
 use native.Mathlib.Omega.{arith}
 use lib.ListN.{length, getD, set}
-use Rattle.bodies.specs.Chain.{Chain, Fits, Pending, popped, same-or-not, set-elsewhere, set-there}
+use Rattle.angles.specs.Angles.{same-or-not}
+use Rattle.bodies.specs.Chain.{Chain, Fits, Pending, popped, set-elsewhere, set-there}
 
 -- some of them have ended
 pub record Settling (level : ℕ → ℕ) (E : ℕ → Type 0) (number : ℕ) (m n links heads : List ℕ) : Type 0 where

@@ -20,8 +20,8 @@ use Rattle.blocks.specs.Blocks.{count-behind, count-most, countFrom}
 use Rattle.search.specs.BodyLaws.{passed}
 use Rattle.search.specs.LevelLaws.{body-same}
 use Rattle.chunks.specs.Sums.{count-more}
-use Rattle.bodies.specs.Angles.{Stack, Turned, above, above-before, above-behind, above-next, boundaryOf, empty-stack, stack-next}
-use Rattle.bodies.specs.Chain.{Chain, Fits, Pending, added, added-fits, same-or-not, set-elsewhere, set-there}
+use Rattle.angles.specs.Angles.{Stack, Turned, above, above-before, above-behind, above-next, boundaryOf, empty-stack, same-or-not, stack-next}
+use Rattle.bodies.specs.Chain.{Chain, Fits, Pending, added, added-fits, set-elsewhere, set-there}
 use Rattle.bodies.specs.Settling.{Settled}
 use Rattle.bodies.specs.declared.Walk.{Walk}
 

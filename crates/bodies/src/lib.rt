@@ -5,13 +5,11 @@ use chunks::Known;
 ghost use mathlib.Core.Path.{_≡_};
 ghost use mathlib.Core.Bool.{true, false};
 ghost use mathlib.Core.Logic.{_≢_};
-ghost use mathlib.Core.List.{List};
 ghost use Prim.Native.Nat.{ℕ, _+_, _-_, _≤_, _<_};
-ghost use lib.ListN.{length, getD, set};
-ghost use Rattle.source_rules.specs.Finding.{angleAfter};
+ghost use lib.ListN.{length, getD};
 ghost use Rattle.chunks.specs.Passing.{Summary};
 ghost use Rattle.chunks.specs.Table.{Summed};
-ghost use Rattle.bodies.specs.Angles.{Stack, Turned, above, boundaryOf, less, more};
+ghost use Rattle.angles.specs.Angles.{Stack, Turned};
 ghost use Rattle.bodies.specs.Bodies.{Finds, Rising};
 ghost use Rattle.bodies.specs.Chain.{Chain, Fits};
 ghost use Rattle.bodies.specs.Crossing.{Missed, Narrows, crossed, depthBehind};
@@ -32,18 +30,6 @@ const PENDING: u32 = 1;
 const NONE: u32 = 2;
 
 const FIRST: usize = 3;
-
-fn place(n: u32) -> usize
-    ensures { λ r. ⌜ (r ≡ n) × (r < 4294967296) ⌝ }
-{
-    n as usize
-}
-
-fn wide(n: u16) -> usize
-    ensures { λ r. ⌜ (r ≡ n) × (r < 65536) ⌝ }
-{
-    n as usize
-}
 
 // The searches of a level that begin at a boundary or behind it end, with a number. They are taken off the front of the level's chain. Answers how many
 // are still pending, of which nothing is proved but that it is no more than before.
@@ -66,26 +52,15 @@ fn settle(
         ⌝ }
 {
     let mut left = pending;
-    let mut head = wide(heads[level]);
+    let mut head = angles::wide(heads[level]);
     while boundary < head {
         let j = head - 1;
         m[2 + j] = number;
         heads[level] = links[j];
-        head = wide(links[j]);
+        head = angles::wide(links[j]);
         left = search::less(left, 1);
     }
     left
-}
-
-// Searches that began before it are inside an angle bracket that is open, and no others.
-fn boundary(height: usize, counts: &[u16; 2049]) -> usize
-    requires { ⌜ (height ≤ 2049) × (length (now counts) ≡ 2049) ⌝ }
-    ensures { λ r. ⌜ r ≡ boundaryOf (now (counts .entry)) height ⌝ }
-{
-    if height == 0 {
-        return 0;
-    }
-    wide(counts[height - 1])
 }
 
 // How far the walk over a text has come: how many searches have begun, the groups of angle brackets that are open, the square brackets that were opened
@@ -146,7 +121,7 @@ fn end_level(
     }
     settle(
         level,
-        boundary(w.height, counts),
+        angles::boundary(w.height, counts),
         number,
         w.pending,
         m,
@@ -187,102 +162,6 @@ fn end_at(
         return end_level(w, NONE, m, links, heads, counts);
     }
     w.pending
-}
-
-// A group of some brackets.
-fn begin_group(
-    n: usize,
-    next: usize,
-    height: usize,
-    counts: &mut [u16; 2049],
-    sizes: &mut [u32; 2049],
-) -> usize
-    requires { ⌜
-        (n ≤ 4294967292)
-        × (next ≤ 2048)
-        × (height ≤ 2048)
-        × (length (now counts) ≡ 2049)
-        × (length (now sizes) ≡ 2049)
-        ⌝ }
-    ensures { λ r. ⌜
-        (r ≡ height + 1)
-        × (now (counts .exit) ≡ set (now (counts .entry)) height next)
-        × (now (sizes .exit) ≡ set (now (sizes .entry)) height n)
-        ⌝ }
-{
-    counts[height] = next as u16;
-    sizes[height] = n as u32;
-    height + 1
-}
-
-// The groups once a number of brackets is opened. They belong to the last group if no search has begun since that one began.
-fn angles_opened(
-    n: usize,
-    w: Walk,
-    height: usize,
-    counts: &mut [u16; 2049],
-    sizes: &mut [u32; 2049],
-) -> usize
-    requires { ⌜ (w .at + n ≤ 4294967292) × Stack (now counts) (now sizes) height (w .next) (w .at) ⌝ }
-    ensures { λ r. ⌜
-        Turned (more n) (w .next) (w .at + n) (now (counts .entry)) (now (sizes .entry)) height (now (counts .exit)) (now (sizes .exit)) r
-        ⌝ }
-{
-    if n == 0 {
-        return height;
-    }
-    if height == 0 {
-        return begin_group(n, w.next, height, counts, sizes);
-    }
-    let last = height - 1;
-    if wide(counts[last]) != w.next {
-        return begin_group(n, w.next, height, counts, sizes);
-    }
-    sizes[last] = sizes[last] + n as u32;
-    height
-}
-
-// The groups once a number of brackets is closed, the last ones first. A group of which all are closed is gone.
-fn angles_closed(n: usize, height: usize, sizes: &mut [u32; 2049]) -> usize
-    requires { ⌜ (height ≤ 2049) × (length (now sizes) ≡ 2049) ⌝ }
-    ensures { λ r. ⌜
-        ((counts : List ℕ) (next at : ℕ)
-        → Stack counts (now (sizes .entry)) height next at
-        → Turned (less n) next at counts (now (sizes .entry)) height counts (now (sizes .exit)) r)
-        ⌝ }
-{
-    let mut left = n;
-    let mut rest = height;
-    while 0 < left {
-        if rest == 0 {
-            return rest;
-        }
-        let last = rest - 1;
-        let size = place(sizes[last]);
-        if left < size {
-            sizes[last] = (size - left) as u32;
-            return rest;
-        }
-        left -= size;
-        rest = last;
-    }
-    rest
-}
-
-// The groups of angle brackets behind a byte. A `>` closes the last bracket that is open.
-fn angles_after(b: u8, w: Walk, counts: &mut [u16; 2049], sizes: &mut [u32; 2049]) -> usize
-    requires { ⌜ (w .at < 4294967292) × Stack (now counts) (now sizes) (w .height) (w .next) (w .at) ⌝ }
-    ensures { λ r. ⌜
-        Turned (angleAfter b) (w .next) (w .at + 1) (now (counts .entry)) (now (sizes .entry)) (w .height) (now (counts .exit)) (now (sizes .exit)) r
-        ⌝ }
-{
-    if b == b'<' {
-        return angles_opened(1, w, w.height, counts, sizes);
-    }
-    if b == b'>' {
-        return angles_closed(1, w.height, sizes);
-    }
-    w.height
 }
 
 // The walk with the search that begins. It is put before the chain of its level, where one is kept for it.
@@ -350,7 +229,7 @@ fn begin(
     if many <= next {
         return w;
     }
-    if place(starts[next]) != w.at {
+    if angles::place(starts[next]) != w.at {
         return w;
     }
     note(w, m, links, heads)
@@ -383,7 +262,7 @@ fn step(
     let at = v.at;
     let b = s[at];
     let pending = end_at(b, v, m, links, heads, counts);
-    let height = angles_after(b, v, counts, sizes);
+    let height = angles::angles_after(b, v.next, v.at, v.height, counts, sizes);
     Walk {
         at: at + 1,
         next: v.next,
@@ -441,7 +320,7 @@ fn next_start(starts: &[u32; 2048], many: usize, next: usize, end: usize) -> usi
     if many <= next {
         return end;
     }
-    let start = place(starts[next]);
+    let start = angles::place(starts[next]);
     if end < start {
         return end;
     }
@@ -541,21 +420,6 @@ fn narrowed(w: Walk, heads: &[u16; 4097]) -> Walk
     }
 }
 
-// So many angle brackets are open at least for each search that has begun.
-fn least_angle(w: Walk, counts: &[u16; 2049], sizes: &[u32; 2049]) -> usize
-    requires { ⌜ Stack (now counts) (now sizes) (w .height) (w .next) (w .at) ⌝ }
-    ensures { λ r. ⌜ ((i : ℕ) → i < w .next → r ≤ above (now (counts .entry)) (now (sizes .entry)) (w .height) i) ⌝ }
-{
-    if w.height == 0 {
-        return 0;
-    }
-    let last = w.height - 1;
-    if wide(counts[last]) != w.next {
-        return 0;
-    }
-    place(sizes[last])
-}
-
 // Whether no pending search ends in a chunk: each has more angle brackets open than the chunk closes before its last `{` or `;`, or all of these stand
 // above the levels of the searches, or all below.
 fn is_missed(c: Chunk, w: Walk, counts: &[u16; 2049], sizes: &[u32; 2049]) -> bool
@@ -570,7 +434,7 @@ fn is_missed(c: Chunk, w: Walk, counts: &[u16; 2049], sizes: &[u32; 2049]) -> bo
         ⌝ }
     ensures { λ r. ⌜ (r ≡ true → Missed c w (now (counts .entry)) (now (sizes .entry))) ⌝ }
 {
-    if c.ended < least_angle(w, counts, sizes) {
+    if c.ended < angles::least_angle(w.next, w.at, w.height, counts, sizes) {
         return true;
     }
     if 2048 + w.high + w.closed < c.low + w.opened {
@@ -586,7 +450,7 @@ fn is_free(starts: &[u32; 2048], many: usize, next: usize, to: usize) -> bool
     if many <= next {
         return true;
     }
-    to <= place(starts[next])
+    to <= angles::place(starts[next])
 }
 
 // The walk behind a chunk. The angle brackets that it closes from before stand before those that it leaves open.
@@ -605,11 +469,11 @@ fn pass(c: Chunk, w: Walk, counts: &mut [u16; 2049], sizes: &mut [u32; 2049]) ->
         × Turned (depthBehind c) (w .next) (w .at + 4096) (now (counts .entry)) (now (sizes .entry)) (w .height) (now (counts .exit)) (now (sizes .exit)) (r .height)
         ⌝ }
 {
-    let height = angles_closed(c.downs, w.height, sizes);
+    let height = angles::angles_closed(c.downs, w.height, sizes);
     Walk {
         at: w.at + chunks::SIZE,
         next: w.next,
-        height: angles_opened(c.ups, w, height, counts, sizes),
+        height: angles::angles_opened(c.ups, w.next, w.at, height, counts, sizes),
         opened: w.opened + c.opened,
         closed: w.closed + c.closed,
         pending: w.pending,
@@ -714,7 +578,7 @@ fn walk_on(
     ensures { λ r. ⌜ Told (now (s .entry)) (now (starts .entry)) r (now (m .exit)) ⌝ }
 {
     let mut w = Walk {
-        at: place(starts[0]),
+        at: angles::place(starts[0]),
         next: 0,
         height: 0,
         opened: 0,

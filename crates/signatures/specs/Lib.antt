@@ -1,3 +1,2 @@
--- What is noted of the brackets of signatures.
+-- What the search for the brackets of signatures answers.
 pub mod Signatures
-pub mod Filling

@@ -6,7 +6,7 @@ use mathlib.Core.List.{List, [], _∷_}
 use mathlib.Core.Option.{none, some}
 use lib.ListN.{length, take, drop, getD}
 use Rattle.text_rules.specs.Bytes.{_orElse_}
-use Rattle.text_rules.specs.Classes.{braceClose, braceOpen, hash, lf}
+use Rattle.text_rules.specs.Classes.{braceClose, braceOpen, hash}
 use Rattle.text_rules.specs.Search.{part}
 use Rattle.source_rules.specs.Brackets.{partner}
 use Rattle.source_rules.specs.Finding.{Places, functionAt, functionFrom, spanLength}
@@ -16,9 +16,9 @@ use Rattle.source_rules.specs.PlaceLaws.{blockFrom, placesAt}
 use Rattle.source_rules.specs.TextScan.{TextFun, functionsFrom, measured}
 use Rattle.source_rules.specs.TextScanLaws.{Fine}
 use Rattle.source_rules.specs.TextScanSteps.{byteBefore}
-use Rattle.blocks.specs.Blocks.{Every, countFrom}
 use Rattle.search.specs.Place.{Learned}
 use Rattle.measures.specs.Walks.{MeasuredBody}
+use Rattle.passing.specs.declared.Spot.{Spot}
 use Rattle.source.specs.declared.Block.{Block}
 use Rattle.source.specs.declared.Brackets.{Brackets}
 use Rattle.source.specs.declared.Cursor.{Cursor}
@@ -28,7 +28,6 @@ use Rattle.source.specs.declared.Measure.the-variants.{Counted, Nothing}
 use Rattle.source.specs.declared.Signature.{Signature}
 use Rattle.source.specs.declared.Signature.the-variants.{Whole, Broken}
 use Rattle.source.specs.declared.Span.{Span}
-use Rattle.source.specs.declared.Spot.{Spot}
 use Rattle.source.specs.declared.Step.{Step}
 use Rattle.source.specs.declared.Step.the-variants.{Function, End}
 use Rattle.source.specs.declared.Turn.{Turn}
@@ -105,20 +104,6 @@ pub record Quieter (s : List ℕ) (from start spanEnd resume : ℕ) (r : Spot) :
   pub inside : r .at ≤ length s
   pub line-most : r .line ≤ r .at + 1
   pub passes : (c : Cursor) → c .at ≡ from → c .line ≡ start → c .«span_end» ≡ spanEnd → c .resume ≡ resume → Ready s c → Ready s (movedTo c (r .at) (r .line)) × (remaining s c ≡ remaining s (movedTo c (r .at) (r .line)))
-
-abbrev pub Neither : (x y b : ℕ) → Type 0
-Neither x y b = (b ≢ x) × (b ≢ y)
-
-abbrev pub Any : ℕ → Type 0
-Any b = Unit {0}
-
--- bytes before a place are passed, each of them one that may be, with the lines counted
-pub record Passed (P : ℕ → Type 0) (s : List ℕ) (from start to : ℕ) (r : Spot) : Type 0 where
-  pub many : ℕ
-  pub at-is : r .at ≡ from + many
-  pub line-is : r .line ≡ start + countFrom lf s from many
-  pub each : Every P s from many
-  pub before : 0 < many → r .at ≤ to
 
 abbrev pub Stepped : List ℕ → Cursor → Step → Type 0
 Stepped s c (Function f d) = Yields s c f d

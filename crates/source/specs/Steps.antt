@@ -24,17 +24,18 @@ use Rattle.source_rules.specs.TextScan.{TextFun, functionsFrom, measured, sough
 use Rattle.source_rules.specs.TextScanLaws.{Fine, Here, fine}
 use Rattle.source_rules.specs.TextScanSteps.{byteBefore, function-at, functions-past, name-from, name-to, no-function, no-hash, other-byte}
 use Rattle.source_rules.specs.WalkSteps.{functions-end, functions-some, sought-in-span, sought-no-word, sought-skipped}
-use Rattle.blocks.specs.Blocks.{Every, count-behind, count-most, count-none, count-one, count-sum, countFrom, every-one, every-sum}
+use Rattle.blocks.specs.Blocks.{count-behind, countFrom}
+use Rattle.passing.specs.Passing.{Passed}
+use Rattle.passing.specs.declared.Spot.{Spot}
 use Rattle.search.specs.EndLaws.{no-partner, none-some}
 use Rattle.search.specs.FlatLaws.{no-body}
 use Rattle.search.specs.Place.{Learned}
 use Rattle.search.specs.declared.Learnt.{Learnt}
-use Rattle.source.specs.Cursors.{Barren, Calm, Closed, FoundAt, MeasuredAt, Passed, Passes, Quieter, Ready, SpanAt, Spanless, Yields, movedTo, remaining, remainingAt, textFun}
+use Rattle.source.specs.Cursors.{Barren, Calm, Closed, FoundAt, MeasuredAt, Passes, Quieter, Ready, SpanAt, Spanless, Yields, movedTo, remaining, remainingAt, textFun}
 use Rattle.source.specs.declared.Brackets.{Brackets}
 use Rattle.source.specs.declared.Cursor.{Cursor}
 use Rattle.source.specs.declared.Found.{Found}
 use Rattle.source.specs.declared.Span.{Span}
-use Rattle.source.specs.declared.Spot.{Spot}
 
 -- `end` is where the span at the byte ends
 module _ (s : List ℕ) (at line spanEnd resume end : ℕ) (h : at < length s) (e : end - at ≡ (spanEnd - at) orElse spanLength (drop at s)) where
@@ -216,38 +217,6 @@ module _ (s : List ℕ) (from start spanEnd resume : ℕ) where
             | inl t ↦ omega (arith, p .at-is, p .before (ltb-true 0 (p .many) t))
             | inr t ↦ omega (arith, h .inside, ltb-false 0 (p .many) t)
           ]
-
--- bytes passed: none, one, a block, and some after others
-module _ (P : ℕ → Type 0) (s : List ℕ) where
-  pub passed-none : (from start to : ℕ) → Passed P s from start to (record { at = from; line = start })
-  passed-none from start to = record { many = 0; at-is = omega arith; line-is = omega (arith, count-none lf s from); each = λ i k. absurd (omega arith); before = λ k. absurd (omega arith) }
-
-  pub passed-block : (from start to many : ℕ) → from + many ≤ to → Every P s from many → (lines : ℕ) → lines ≡ countFrom lf s from many → Passed P s from start to (record { at = from + many; line = start + lines })
-  passed-block from start to many k each lines e = record { many = many; at-is = refl; line-is = ap (λ n. start + n) e; each = each; before = λ j. k }
-
-  pub passed-byte : (from start to : ℕ) → from < to → P (getD s from 0) → (next : ℕ) → next ≡ countAfter lf (getD s from 0) start → Passed P s from start to (record { at = from + 1; line = next })
-  passed-byte from start to k p next e = record { many = 1; at-is = refl; line-is = e ∙ count-one lf s from start; each = every-one P s from p; before = λ j. omega arith }
-
-  pub passed-more : (from start to : ℕ) (q r : Spot) → Passed P s from start to q → Passed P s (q .at) (q .line) to r → Passed P s from start to r
-  passed-more from start to q r h g =
-      let e : q .at ≡ from + h .many = h .at-is in
-      let later : Every P s (from + h .many) (g .many) = subst (λ k. Every P s k (g .many)) e (g .each) in
-      let lines : countFrom lf s (q .at) (g .many) ≡ countFrom lf s (from + h .many) (g .many) = ap (λ k. countFrom lf s k (g .many)) e in
-      record {
-        many = h .many + g .many;
-        at-is = omega (arith, g .at-is);
-        line-is = omega (arith, lines, h .line-is, g .line-is, count-sum lf s from (h .many) (g .many));
-        each = every-sum P s from (h .many) (g .many) (h .each) later;
-        before =
-            λ j. elim (whether (ltb 0 (g .many))) [
-              | inl t ↦ g .before (ltb-true 0 (g .many) t)
-              | inr t ↦ omega (arith, ltb-false 0 (g .many) t, g .at-is, h .before (omega (arith, ltb-false 0 (g .many) t)))
-            ];
-      }
-
--- a line is counted for a byte at most
-pub passed-line : (P : ℕ → Type 0) (s : List ℕ) (from start to : ℕ) (r : Spot) → Passed P s from start to r → start ≤ from + 1 → r .line ≤ r .at + 1
-passed-line P s from start to r p h = omega (arith, p .at-is, p .line-is, count-most lf s from (p .many))
 
 -- a turn that finds a function finds it for every cursor that has the same functions
 pub yields-later : (s : List ℕ) (b c : Cursor) (f : Found) (d : Cursor) → remaining s c ≡ remaining s b → b .at ≤ c .at → Yields s c f d → Yields s b f d

@@ -3,6 +3,7 @@
 // over. Bytes at which nothing can begin are passed in blocks of sixteen.
 use measures::Body;
 use measures::BodyAt;
+use passing::Spot;
 use search::Learnt;
 use search::Place;
 use signatures::Sought;
@@ -12,11 +13,10 @@ ghost use mathlib.Core.Bool.{true};
 ghost use Prim.Native.Nat.{_+_, _≤_, _<_};
 ghost use lib.ListN.{length, getD};
 ghost use Rattle.text_rules.specs.Classes.{braceOpen};
-ghost use Rattle.blocks.specs.Blocks.{Every};
 ghost use Rattle.search.specs.Place.{Learned};
-ghost use Rattle.signatures.specs.Signatures.{Lent};
+ghost use Rattle.parts.specs.Told.{Lent};
 ghost use Rattle.source_rules.specs.TextScan.{functions};
-ghost use Rattle.source.specs.Cursors.{Any, Barren, Blocked, Closed, FoundAt, Measures, Neither, Passed, Quieter, Ready, Signed, SpanAt, Stepped, Turned, remaining};
+ghost use Rattle.source.specs.Cursors.{Barren, Blocked, Closed, FoundAt, Measures, Quieter, Ready, Signed, SpanAt, Stepped, Turned, remaining};
 
 // Where the search for functions stands in a text.
 pub struct Cursor {
@@ -235,113 +235,15 @@ fn found_at(s: &[u8], line: usize, from: usize, to: usize, b: Brackets) -> Found
     }
 }
 
-// A place, and its line.
-struct Spot {
-    at: usize,
-    line: usize,
-}
-
-fn least(a: usize, b: usize) -> usize
-    ensures { λ r. ⌜ (r ≤ a) × (r ≤ b) ⌝ }
-{
-    if a < b { a } else { b }
-}
-
-// Whether no byte of the block at a place is one of two, which may be the same.
-fn lacks_both(s: &[u8], at: usize, x: u8, y: u8) -> bool
-    requires { ⌜ at + 16 ≤ length (now s) ⌝ }
-    ensures { λ r. ⌜ (r ≡ true → Every (Neither x y) (now (s .entry)) at 16) ⌝ }
-{
-    if !blocks::lacks(s, at, x) {
-        return false;
-    }
-    if x == y {
-        return true;
-    }
-    blocks::lacks(s, at, y)
-}
-
-// Past whole blocks in which neither of two bytes stands.
-fn pass_blocks(s: &[u8], from: usize, start: usize, to: usize, x: u8, y: u8) -> Spot
-    requires { ⌜ (to ≤ length (now s)) × (start ≤ from + 1) ⌝ }
-    ensures { λ r. ⌜ Passed (Neither x y) (now (s .entry)) from start to r ⌝ }
-{
-    let mut at = from;
-    let mut line = start;
-    while at < to {
-        if to - at < blocks::WIDTH {
-            return Spot { at, line };
-        }
-        if !lacks_both(s, at, x, y) {
-            return Spot { at, line };
-        }
-        let n = blocks::count(s, at, b'\n');
-        line += n;
-        at += blocks::WIDTH;
-    }
-    Spot { at, line }
-}
-
-// Past bytes that are neither of two.
-fn pass_bytes(s: &[u8], from: usize, start: usize, to: usize, x: u8, y: u8) -> Spot
-    requires { ⌜ (to ≤ length (now s)) × (start ≤ from + 1) ⌝ }
-    ensures { λ r. ⌜ Passed (Neither x y) (now (s .entry)) from start to r ⌝ }
-{
-    let mut at = from;
-    let mut line = start;
-    while at < to {
-        let b = s[at];
-        if b == x {
-            return Spot { at, line };
-        }
-        if b == y {
-            return Spot { at, line };
-        }
-        line = search::count_after(b'\n', b, line);
-        at += 1;
-    }
-    Spot { at, line }
-}
-
-// The next byte that is one of two, or the given place. Blocks and bytes have a loop each: in one loop for both the compiler reads the first byte
-// of a block by itself, and no longer the sixteen at once. The block at which the first loop ends has one of the bytes, so the second is short.
-fn pass_others(s: &[u8], from: usize, start: usize, to: usize, x: u8, y: u8) -> Spot
-    requires { ⌜ (to ≤ length (now s)) × (start ≤ from + 1) ⌝ }
-    ensures { λ r. ⌜ Passed (Neither x y) (now (s .entry)) from start to r ⌝ }
-{
-    let q = pass_blocks(s, from, start, to, x, y);
-    pass_bytes(s, q.at, q.line, to, x, y)
-}
-
-// A place further on, with the lines counted.
-fn pass_all(s: &[u8], from: usize, start: usize, to: usize) -> Spot
-    requires { ⌜ (to ≤ length (now s)) × (start ≤ from + 1) ⌝ }
-    ensures { λ r. ⌜ Passed Any (now (s .entry)) from start to r ⌝ }
-{
-    let mut at = from;
-    let mut line = start;
-    while at < to {
-        if blocks::WIDTH <= to - at {
-            let n = blocks::count(s, at, b'\n');
-            line += n;
-            at += blocks::WIDTH;
-        } else {
-            line = search::count_after(b'\n', s[at], line);
-            at += 1;
-        }
-    }
-    Spot { at, line }
-}
-
 // The next byte at which a test span or a function may begin, or the end of the text. In a test span neither is sought, in a body no function.
 fn quiet_end(s: &[u8], from: usize, start: usize, span_end: usize, resume: usize) -> Spot
     requires { ⌜ (from ≤ length (now s)) × (start ≤ from + 1) ⌝ }
     ensures { λ r. ⌜ Quieter (now (s .entry)) from start «span_end» resume r ⌝ }
 {
     let n = s.len();
-    let a = pass_all(s, from, start, least(span_end, n));
-    let b = pass_others(s, a.at, a.line, least(resume, n), b'#', b'#');
-    pass_others(s, b.at, b.line, n, b'#', b'f')
+    let a = passing::pass_all(s, from, start, chunks::least(span_end, n));
+    let b = passing::pass_others(s, a.at, a.line, chunks::least(resume, n), b'#', b'#');
+    passing::pass_others(s, b.at, b.line, n, b'#', b'f')
 }
 
 // The start of a text.

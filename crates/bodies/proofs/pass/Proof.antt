@@ -2,7 +2,7 @@
 use Prim.Native.Nat.{_+_}
 use mathlib.Core.Path.{refl}
 use native.Mathlib.Omega.{arith}
-use Rattle.bodies.specs.Angles.{less, more, turned-as, turned-then}
+use Rattle.angles.specs.Angles.{less, more, turned-as, turned-then}
 use Rattle.bodies.specs.Crossing.{depthBehind}
 use borrow.Author.Needs.{needs}
 use Rattle.bodies.proofs.pass.Statement.{statement}

@@ -5,7 +5,7 @@ use mathlib.Core.Logic.{_≢_, inl, inr}
 use native.Mathlib.Omega.{arith}
 use denote.Ref.{now}
 use lib.ListN.{getD}
-use Rattle.bodies.specs.Chain.{same-or-not}
+use Rattle.angles.specs.Angles.{same-or-not}
 use borrow.Author.Needs.{needs}
 use Rattle.bodies.proofs.raised.Statement.{statement}
 use Rattle.bodies.proofs.raised.Tie as tie

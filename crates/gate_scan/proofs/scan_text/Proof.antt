@@ -11,7 +11,7 @@ use Rattle.gate_rules.specs.RecordForms.{put-record-length, putRecord, putRecor
 use Rattle.gate_rules.specs.Records.{recordBytes}
 use Rattle.windows.specs.Window.{noted-nothing}
 use Rattle.chunks.specs.Table.{summed-nothing}
-use Rattle.signatures.specs.Signatures.{Lent, Told}
+use Rattle.parts.specs.Told.{Lent, Told}
 use Rattle.source.specs.Cursors.{Ready, Stepped, Yields, remaining}
 use Rattle.gate_scan.specs.Told.{count-next, records-end, records-next, recordsFor, small, told, told-wide}
 use Rattle.gate_scan.proofs.scan_text.Statement.{statement}

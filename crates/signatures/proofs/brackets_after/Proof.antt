@@ -5,8 +5,7 @@ use mathlib.Core.Option.{some}
 use borrow.Author.Needs.{needs}
 use denote.Ref.{now}
 use Rattle.windows.specs.Window.{noted-kept}
-use Rattle.signatures.specs.Filling.{found-told}
-use Rattle.signatures.specs.Signatures.{Told, bodyBehind}
+use Rattle.parts.specs.Told.{Told, bodyBehind, found-told}
 use Rattle.signatures.proofs.brackets_after.Statement.{statement}
 use Rattle.signatures.proofs.brackets_after.Tie as tie
 

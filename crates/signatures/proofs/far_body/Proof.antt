@@ -9,7 +9,7 @@ use lib.ListN.{length}
 use Rattle.source_rules.specs.WalkSteps.{body-end}
 use Rattle.search.specs.Place.{Counted, Reaches, bodyFrom}
 use Rattle.chunks.specs.Passing.{TellsCounts}
-use Rattle.signatures.specs.Signatures.{bodyBehind}
+use Rattle.parts.specs.Told.{bodyBehind}
 use Rattle.signatures.proofs.far_body.Statement.{statement}
 use Rattle.signatures.proofs.far_body.Tie as tie
 

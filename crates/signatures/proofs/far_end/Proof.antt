@@ -10,7 +10,8 @@ use Rattle.text_rules.specs.Classes.{roundClose, roundOpen}
 use Rattle.source_rules.specs.WalkSteps.{partner-end}
 use Rattle.search.specs.Place.{Meets}
 use Rattle.chunks.specs.Passing.{TellsDepth}
-use Rattle.signatures.specs.Signatures.{sought-past, soughtFrom}
+use Rattle.parts.specs.Told.{soughtFrom}
+use Rattle.signatures.specs.Signatures.{sought-past}
 use Rattle.signatures.proofs.far_end.Statement.{statement}
 use Rattle.signatures.proofs.far_end.Tie as tie
 

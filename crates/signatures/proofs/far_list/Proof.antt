@@ -7,7 +7,8 @@ use denote.Ref.{now}
 use Rattle.text_rules.specs.Classes.{roundClose, roundOpen}
 use Rattle.source_rules.specs.PlaceLaws.{partner-place}
 use Rattle.search.specs.Place.{placeOf}
-use Rattle.signatures.specs.Signatures.{follows-begins, no-end, soughtFrom}
+use Rattle.parts.specs.Told.{no-end, soughtFrom}
+use Rattle.signatures.specs.Signatures.{follows-begins}
 use Rattle.signatures.proofs.far_list.Statement.{statement}
 use Rattle.signatures.proofs.far_list.Tie as tie
 

@@ -2,7 +2,7 @@
 use borrow.Author.Needs.{needs}
 use denote.Ref.{now}
 use Rattle.windows.specs.Window.{noted-kept}
-use Rattle.signatures.specs.Signatures.{Told}
+use Rattle.parts.specs.Told.{Told}
 use Rattle.signatures.proofs.look_up.Statement.{statement}
 use Rattle.signatures.proofs.look_up.Tie as tie
 

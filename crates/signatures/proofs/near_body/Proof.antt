@@ -7,7 +7,8 @@ use denote.Ref.{now}
 use Rattle.text_rules.specs.Classes.{roundClose, roundOpen}
 use Rattle.source_rules.specs.PlaceLaws.{partner-place}
 use Rattle.search.specs.Place.{Reaches}
-use Rattle.signatures.specs.Signatures.{no-brace, nothing-begins}
+use Rattle.parts.specs.Told.{no-brace}
+use Rattle.signatures.specs.Signatures.{nothing-begins}
 use Rattle.signatures.proofs.near_body.Statement.{statement}
 use Rattle.signatures.proofs.near_body.Tie as tie
 

@@ -7,8 +7,8 @@ use native.Mathlib.Omega.{arith}
 use borrow.Author.Needs.{needs}
 use denote.Ref.{now}
 use Rattle.source_rules.specs.WalkSteps.{body-end}
-use Rattle.signatures.specs.Filling.{found-told}
-use Rattle.signatures.specs.Signatures.{follows-begins, no-brace, told-body}
+use Rattle.parts.specs.Told.{found-told, no-brace}
+use Rattle.signatures.specs.Signatures.{follows-begins, told-body}
 use Rattle.signatures.proofs.noted_body.Statement.{statement}
 use Rattle.signatures.proofs.noted_body.Tie as tie
 

@@ -9,8 +9,8 @@ use denote.Ref.{now}
 use Rattle.text_rules.specs.Classes.{roundClose, roundOpen}
 use Rattle.source_rules.specs.PlaceLaws.{partner-place}
 use Rattle.source_rules.specs.WalkSteps.{partner-end}
-use Rattle.signatures.specs.Filling.{found-told}
-use Rattle.signatures.specs.Signatures.{bodyBehind, follows-begins, no-end}
+use Rattle.parts.specs.Told.{bodyBehind, found-told, no-end}
+use Rattle.signatures.specs.Signatures.{follows-begins}
 use Rattle.signatures.proofs.noted_list.Statement.{statement}
 use Rattle.signatures.proofs.noted_list.Tie as tie
 

@@ -4,8 +4,8 @@ use native.Mathlib.Omega.{arith}
 use borrow.Author.Needs.{needs}
 use lib.ListN.{length}
 use Rattle.text_rules.specs.Classes.{hash}
-use Rattle.source.specs.Cursors.{Any, Neither}
-use Rattle.source.specs.Steps.{calm-body, calm-byte, calm-span, passed-line, quieter-here, quieter-on}
+use Rattle.passing.specs.Passing.{Any, Neither, passed-line}
+use Rattle.source.specs.Steps.{calm-body, calm-byte, calm-span, quieter-here, quieter-on}
 use Rattle.source.proofs.quiet_end.Statement.{statement}
 use Rattle.source.proofs.quiet_end.Tie as tie
 
@@ -14,7 +14,7 @@ pass-others-requires c κs =
     let p = c .before in
     let b = p .before .before .before in
     let s = b .args .s .now in
-    (c .least2 .ensures .1, passed-line Any s (b .args .from) (b .args .start) (p .before .least .result) (p .pass-all .result) (p .pass-all .ensures) (b .pre .1))
+    (omega (arith, c .least2 .ensures), passed-line Any s (b .args .from) (b .args .start) (p .before .least .result) (p .pass-all .result) (p .pass-all .ensures) (b .pre .1))
 
 pass-others-requires-2 : tie.Need-pass-others-requires-2
 pass-others-requires-2 c κs =
@@ -37,8 +37,8 @@ returns c =
     let resume = b .args .resume in
     let on = quieter-on s (b .args .from) (b .args .start) spanEnd resume in
     let none = quieter-here s (b .args .from) (b .args .start) spanEnd resume (b .pre .0) (b .pre .1) in
-    let span = on Any _ none (k .least .result) (k .least .ensures .1) (λ at h x. calm-span s spanEnd resume at (omega (arith, k .least .ensures .0))) (p .pass-all .result) (p .pass-all .ensures) in
-    let body = on (Neither hash hash) _ span (l .least2 .result) (l .least2 .ensures .1) (λ at h x. calm-body s spanEnd resume at (omega (arith, l .least2 .ensures .0)) (x .0)) (o .pass-others .result) (o .pass-others .ensures) in
+    let span = on Any _ none (k .least .result) (omega (arith, k .least .ensures)) (λ at h x. calm-span s spanEnd resume at (omega (arith, k .least .ensures))) (p .pass-all .result) (p .pass-all .ensures) in
+    let body = on (Neither hash hash) _ span (l .least2 .result) (omega (arith, l .least2 .ensures)) (λ at h x. calm-body s spanEnd resume at (omega (arith, l .least2 .ensures)) (x .0)) (o .pass-others .result) (o .pass-others .ensures) in
     on (Neither hash 102) _ body (length s) (omega arith) (λ at h x. calm-byte s spanEnd resume at x) (c .pass-others2 .result) (c .pass-others2 .ensures)
 
 pub quiet-end-spec : {M : Type 1} → statement M

@@ -14,7 +14,8 @@ use Rattle.source_rules.specs.Finding.{bodyAt, functionFrom}
 use Rattle.source_rules.specs.FindingLaws.{body-brace}
 use Rattle.source_rules.specs.PlaceLaws.{body-place, find-place, no-body, no-list, open-body, open-list, partner-place, whole}
 use Rattle.search.specs.Place.{placeOf}
-use Rattle.signatures.specs.Signatures.{Begins, NoBody, no-brace, no-end}
+use Rattle.parts.specs.Told.{NoBody, no-brace, no-end}
+use Rattle.signatures.specs.Signatures.{Begins}
 use Rattle.signatures.specs.declared.Sought.{Sought}
 use Rattle.source.specs.Cursors.{Barren, Blocked}
 use Rattle.source.specs.declared.Block.{Block}

@@ -4,7 +4,7 @@ use mathlib.Core.Path.{_≡_, refl, subst, sym, _∙_}
 use native.Mathlib.Omega.{arith}
 use borrow.Author.Needs.{needs}
 use lib.ListN.{length}
-use Rattle.signatures.specs.Signatures.{Lent}
+use Rattle.parts.specs.Told.{Lent}
 use Rattle.source.specs.Cursors.{Passes, Ready, Turned, Yields, movedTo, remaining}
 use Rattle.source.specs.Steps.{remaining-end, yields-later}
 use Rattle.source.proofs.Cursor.next.Statement.{statement}

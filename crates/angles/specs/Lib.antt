@@ -1,0 +1,2 @@
+-- Groups of angle brackets that are open.
+pub mod Angles

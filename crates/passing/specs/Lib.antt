@@ -1,0 +1,2 @@
+-- What is said of bytes that are passed.
+pub mod Passing
