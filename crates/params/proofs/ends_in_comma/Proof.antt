@@ -3,8 +3,8 @@ use mathlib.Core.Path.{sym}
 use Rattle.text_rules.specs.Classes.{comma}
 use Rattle.text_rules.specs.TextSteps.{ends-last}
 use borrow.Author.Needs.{needs}
-use Rattle.measures.proofs.ends_in_comma.Statement.{statement}
-use Rattle.measures.proofs.ends_in_comma.Tie as tie
+use Rattle.params.proofs.ends_in_comma.Statement.{statement}
+use Rattle.params.proofs.ends_in_comma.Tie as tie
 
 returns : tie.Need-returns
 returns c = let a = c .before in sym (ends-last comma (a .args .s .now) (a .pre))

@@ -5,9 +5,9 @@ use native.Mathlib.Omega.{arith}
 use lib.ListN.{drop, length}
 use Rattle.source_rules.specs.Parameters.{partsFrom}
 use Rattle.source_rules.specs.WalkSteps.{parts-end}
-use Rattle.measures.proofs.List.{parts-close, parts-comma, parts-inner, parts-open, parts-other}
-use Rattle.measures.proofs.parts.Statement.{statement}
-use Rattle.measures.proofs.parts.Tie as tie
+use Rattle.params.proofs.List.{parts-close, parts-comma, parts-inner, parts-open, parts-other}
+use Rattle.params.proofs.parts.Statement.{statement}
+use Rattle.params.proofs.parts.Tie as tie
 
 abbrev Inv-loop : tie.InvT-loop
 Inv-loop s n₀ opened₀ closed₀ at₀ n opened closed at = (at ≤ length s) × (n ≤ at + 1) × (opened ≤ at) × (closed ≤ at) × (partsFrom n opened closed (drop at s) ≡ partsFrom 1 0 0 s)

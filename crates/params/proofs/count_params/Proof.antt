@@ -3,10 +3,10 @@ use mathlib.Core.Path.{_∙_, _≡_, sym}
 use native.Mathlib.Omega.{arith}
 use Rattle.source_rules.specs.MeasuresLaws.{params-most}
 use Rattle.source_rules.specs.Parameters.{paramsOf}
-use Rattle.measures.proofs.List.{params-none, params-part}
+use Rattle.params.proofs.List.{params-none, params-part}
 use borrow.Author.Needs.{needs}
-use Rattle.measures.proofs.count_params.Statement.{statement}
-use Rattle.measures.proofs.count_params.Tie as tie
+use Rattle.params.proofs.count_params.Statement.{statement}
+use Rattle.params.proofs.count_params.Tie as tie
 
 returns : tie.Need-returns
 returns c = let a = c .before .before in

@@ -5,11 +5,11 @@ use native.Mathlib.Omega.{arith}
 use borrow.Author.Tests.{not-false, not-true}
 use lib.ListN.{drop, getD, length}
 use Rattle.text_rules.specs.Search.{startsWith}
-use Rattle.measures.specs.Walks.{head}
-use Rattle.measures.proofs.List.{head-comma, head-end, head-keeps, head-leaves}
+use Rattle.params.specs.Head.{head}
+use Rattle.params.proofs.List.{head-comma, head-end, head-keeps, head-leaves}
 use Rattle.text_rules.specs.TextSteps.{begins-end, begins-more, begins-none, begins-stop}
-use Rattle.measures.proofs.head_begins.Statement.{statement}
-use Rattle.measures.proofs.head_begins.Tie as tie
+use Rattle.params.proofs.head_begins.Statement.{statement}
+use Rattle.params.proofs.head_begins.Tie as tie
 
 abbrev Inv-loop : tie.InvT-loop
 Inv-loop s word matched₀ at₀ matched at = (at ≤ length s) × (matched ≤ length word) × (startsWith (drop matched word) (head (drop at s)) ≡ startsWith word (head s))

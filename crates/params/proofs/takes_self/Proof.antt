@@ -1,9 +1,9 @@
 -- The two words are tried in the definition's order.
 use mathlib.Core.Path.{_∙_, sym}
-use Rattle.measures.proofs.List.{self-first, self-second}
+use Rattle.params.proofs.List.{self-first, self-second}
 use borrow.Author.Needs.{needs}
-use Rattle.measures.proofs.takes_self.Statement.{statement}
-use Rattle.measures.proofs.takes_self.Tie as tie
+use Rattle.params.proofs.takes_self.Statement.{statement}
+use Rattle.params.proofs.takes_self.Tie as tie
 
 returns : tie.Need-returns
 returns c = let s = c .before .before .before .before .args .s .now in sym (self-first s (sym (c .before .head-begins .ensures) ∙ c .if1 .taken))

@@ -1,7 +1,7 @@
 -- The first comparison decides where it passes, and else the second.
 use borrow.Author.Tests.{eq-eqb, ne-eqb}
-use Rattle.measures.proofs.either.Statement.{statement}
-use Rattle.measures.proofs.either.Tie as tie
+use Rattle.params.proofs.either.Statement.{statement}
+use Rattle.params.proofs.either.Tie as tie
 
 returns : tie.Need-returns
 returns c = rw (eq-eqb _ _ (c .if1 .taken))

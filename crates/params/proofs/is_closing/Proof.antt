@@ -1,8 +1,8 @@
 -- The three bytes are those of the definition.
 use Rattle.source_rules.specs.Parameters.{isClosing}
 use borrow.Author.Needs.{needs}
-use Rattle.measures.proofs.is_closing.Statement.{statement}
-use Rattle.measures.proofs.is_closing.Tie as tie
+use Rattle.params.proofs.is_closing.Statement.{statement}
+use Rattle.params.proofs.is_closing.Tie as tie
 
 returns : tie.Need-returns
 unfolding isClosing

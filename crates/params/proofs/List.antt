@@ -17,7 +17,7 @@ use Rattle.text_rules.specs.Search.{endsIn, part, run, startsWith}
 use Rattle.text_rules.specs.WhiteSpace.{textEnd, trimmed, whiteEnd}
 use Rattle.source_rules.specs.Parameters.{counted, isClosing, isOpening, one, paramsOf, partsFrom, squeezed, takesSelf}
 use Rattle.source_rules.specs.WalkSteps.{parts-step}
-use Rattle.measures.specs.Walks.{head}
+use Rattle.params.specs.Head.{head}
 
 -- a bracket is no comma, and an opening one does not close
 opening-only : (b : ℕ) → isOpening b ≡ true → (eqb b comma ≡ false) × (isClosing b ≡ false)

@@ -1,9 +1,9 @@
 -- The parts, less 1 for a last comma, less 1 for self: the definition of a list that is not empty.
 use mathlib.Core.Path.{sym}
-use Rattle.measures.proofs.List.{counted-some}
+use Rattle.params.proofs.List.{counted-some}
 use borrow.Author.Needs.{needs}
-use Rattle.measures.proofs.count_trimmed.Statement.{statement}
-use Rattle.measures.proofs.count_trimmed.Tie as tie
+use Rattle.params.proofs.count_trimmed.Statement.{statement}
+use Rattle.params.proofs.count_trimmed.Tie as tie
 
 returns : tie.Need-returns
 returns c = let t = c .before in let l = t .before in let e = l .before in let p = e .before in let a = p .before .before in

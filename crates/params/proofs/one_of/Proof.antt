@@ -1,7 +1,7 @@
 -- The first comparison that passes decides.
 use borrow.Author.Tests.{eq-eqb, ne-eqb}
-use Rattle.measures.proofs.one_of.Statement.{statement}
-use Rattle.measures.proofs.one_of.Tie as tie
+use Rattle.params.proofs.one_of.Statement.{statement}
+use Rattle.params.proofs.one_of.Tie as tie
 
 returns : tie.Need-returns
 returns c = rw (eq-eqb _ _ (c .if1 .taken))

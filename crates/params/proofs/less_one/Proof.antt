@@ -1,8 +1,8 @@
 use borrow.Author.Tests.{not-false, not-true}
 use native.Mathlib.Omega.{arith}
 use borrow.Author.Needs.{needs}
-use Rattle.measures.proofs.less_one.Statement.{statement}
-use Rattle.measures.proofs.less_one.Tie as tie
+use Rattle.params.proofs.less_one.Statement.{statement}
+use Rattle.params.proofs.less_one.Tie as tie
 
 -- Subtraction stops at 0, as the code does.
 
