@@ -1,5 +1,3 @@
 -- The laws that the proofs cite.
-mod Bodies
 mod Plain
-mod Rules
 mod Whole

@@ -13,8 +13,8 @@ use Rattle.text_rules.specs.BytesLaws.{whether}
 use Rattle.text_rules.specs.Classes.{apostrophe, hash, letterB, letterR, quote, slash}
 use Rattle.source_rules.specs.Blank.{hashes, rawLetters, rawToken, tokenLength}
 use Rattle.blanking.specs.Contracts.{AllBare, Bare, NoToken}
-use Rattle.blanking.proofs.Bodies.{hashes-stop}
-use Rattle.blanking.proofs.Rules.{letters-none, letters-one, letters-two, raw-no-letters, raw-no-quote, token-none}
+use Rattle.tokens.proofs.Bodies.{hashes-stop}
+use Rattle.tokens.proofs.Rules.{letters-none, letters-one, letters-two, raw-no-letters, raw-no-quote, token-none}
 
 module _ (s : List ℕ) (i p : ℕ) where
   -- the letters of a raw opening end at a bare byte

@@ -2,17 +2,12 @@
 use mathlib.Core.Path.{_≡_}
 use mathlib.Core.Logic.{_≢_}
 use mathlib.Core.List.{List, _∷_, _++_}
-use Prim.Native.Nat.{ℕ, _+_, _-_, _≤_, _<_}
+use Prim.Native.Nat.{ℕ, _-_, _≤_, _<_}
 use lib.ListN.{length, getD, take, drop}
 use Rattle.answers.specs.declared.Answer.{Answer}
 use Rattle.text_rules.specs.Classes.{apostrophe, hash, quote, slash}
 use Rattle.source_rules.specs.Blank.{blankFrom, tokenLength}
 use Rattle.source_rules.specs.BlankCall.{blankCall}
-
--- from a place `at` of a text, n bytes on
-pub record Steps (text : List ℕ) (at n next : ℕ) : Type 0 where
-  pub place : next ≡ at + n
-  pub inside : next ≤ length text
 
 -- the output as it will be when the rest of the text is blanked: the bytes before `at` are written, a token goes on to `end`, and what stands beyond the text remains
 abbrev pub finished : (text output : List ℕ) (at end : ℕ) → List ℕ

@@ -1,23 +1,18 @@
--- What the code tells of a parameter list's head, of a body and of its pieces.
+-- What the code tells of a body and of its pieces.
 use Prim.Native.Nat.{ℕ, _+_, _≤_}
 use mathlib.Core.Path.{_≡_}
 use mathlib.Core.List.{List}
 use mathlib.Core.Option.{Option, none, some}
-use lib.ListN.{length, drop, take}
-use Rattle.text_rules.specs.Classes.{braceClose, braceOpen, comma}
-use Rattle.text_rules.specs.Search.{bytesBefore, part}
+use lib.ListN.{length, drop}
+use Rattle.text_rules.specs.Classes.{braceClose, braceOpen}
+use Rattle.text_rules.specs.Search.{part}
 use Rattle.source_rules.specs.Brackets.{partner}
 use Rattle.source_rules.specs.Measures.{cyclomaticOf, decides, linesOf, nestingOf, pieceLength}
-use Rattle.source_rules.specs.Parameters.{squeezed}
 use Rattle.measures.specs.declared.Body.{Body}
 use Rattle.measures.specs.declared.BodyAt.{BodyAt}
 use Rattle.measures.specs.declared.Piece.{Piece}
 use Rattle.measures.specs.declared.Shape.{Shape}
 use Rattle.measures.specs.declared.Walked.{Walked}
-
--- the part before the first comma, without & and spaces
-abbrev pub head : List ℕ → List ℕ
-head s = squeezed (take (bytesBefore comma s) s)
 
 pub record Shaped (r : Shape) (body : List ℕ) : Type 0 where
   pub nesting-is : r .nesting ≡ nestingOf body

@@ -223,7 +223,7 @@ fn found_at(s: &[u8], line: usize, from: usize, to: usize, b: Brackets) -> Found
 {
     let params_from = b.opened + 1;
     let params_to = b.closed;
-    let params = measures::count_params(&s[params_from..params_to]);
+    let params = params::count_params(&s[params_from..params_to]);
     Found {
         name_at: from,
         name_len: to - from,

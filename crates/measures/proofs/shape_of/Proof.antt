@@ -8,7 +8,8 @@ use Rattle.measures.proofs.BodyLaws.{deepest-close, deepest-open, deepe
 use Rattle.measures.proofs.shape_of.Statement.{statement}
 use Rattle.measures.proofs.shape_of.Tie as tie
 
--- Each turn is one step of the depth and one of the lines. The depth is never more than what was reached, so only an opening brace can reach more.
+-- Each turn is one step of the depth and one of the lines. The depth is never more than what was reached, so only an opening brace can reach more. At 0
+-- one less is 0, as in the definition.
 
 abbrev Inv-loop : tie.InvT-loop
 Inv-loop body depth₀ nesting₀ lines₀ at₀ depth nesting lines at =
@@ -37,23 +38,32 @@ loop-again-2 c =
     let s = l .before .before .args .body .now in
     let deep = deepest-close s (l .loop .at) (omega arith) (l .loop .nesting) (l .loop .depth) (c .before .before .if1 .left) (c .before .if2 .taken) (omega arith) in
     let line = line-other s (l .loop .at) (omega arith) (l .loop .lines) (λ z. omega arith) in
-    let less = ap (λ k. deepest (l .loop .nesting) k (drop (l .loop .at + 1) s)) (c .less-one .ensures) in
-    (omega arith, omega arith, omega arith, omega arith, less ∙ sym deep ∙ l .loop .inv .4, sym line ∙ l .loop .inv .5)
+    (omega arith, omega arith, omega arith, omega arith, sym deep ∙ l .loop .inv .4, sym line ∙ l .loop .inv .5)
 
 loop-again-3 : tie.Need-loop-again-3 Inv-loop μ-loop
 loop-again-3 c =
     let l = c .before .before .before .before .before in
     let s = l .before .before .args .body .now in
-    let deep = deepest-other s (l .loop .at) (omega arith) (l .loop .nesting) (l .loop .depth) (c .before .before .if1 .left) (c .before .if2 .left) (omega arith) in
-    let line = line-lf s (l .loop .at) (omega arith) (l .loop .lines) (c .if3 .taken) in
-    (omega arith, omega arith, omega arith, omega arith, sym deep ∙ l .loop .inv .4, sym line ∙ l .loop .inv .5)
+    let deep = deepest-close s (l .loop .at) (omega arith) (l .loop .nesting) (l .loop .depth) (c .before .before .if1 .left) (c .before .if2 .taken) (omega arith) in
+    let line = line-other s (l .loop .at) (omega arith) (l .loop .lines) (λ z. omega arith) in
+    let none : l .loop .depth ≡ l .loop .depth - 1 = omega arith in
+    let same = ap (λ k. deepest (l .loop .nesting) k (drop (l .loop .at + 1) s)) none in
+    (omega arith, omega arith, omega arith, omega arith, same ∙ sym deep ∙ l .loop .inv .4, sym line ∙ l .loop .inv .5)
 
 loop-again-4 : tie.Need-loop-again-4 Inv-loop μ-loop
 loop-again-4 c =
     let l = c .before .before .before .before .before in
     let s = l .before .before .args .body .now in
     let deep = deepest-other s (l .loop .at) (omega arith) (l .loop .nesting) (l .loop .depth) (c .before .before .if1 .left) (c .before .if2 .left) (omega arith) in
-    let line = line-other s (l .loop .at) (omega arith) (l .loop .lines) (c .if3 .left) in
+    let line = line-lf s (l .loop .at) (omega arith) (l .loop .lines) (c .if4 .taken) in
+    (omega arith, omega arith, omega arith, omega arith, sym deep ∙ l .loop .inv .4, sym line ∙ l .loop .inv .5)
+
+loop-again-5 : tie.Need-loop-again-5 Inv-loop μ-loop
+loop-again-5 c =
+    let l = c .before .before .before .before .before in
+    let s = l .before .before .args .body .now in
+    let deep = deepest-other s (l .loop .at) (omega arith) (l .loop .nesting) (l .loop .depth) (c .before .before .if1 .left) (c .before .if2 .left) (omega arith) in
+    let line = line-other s (l .loop .at) (omega arith) (l .loop .lines) (c .if4 .left) in
     (omega arith, omega arith, omega arith, omega arith, sym deep ∙ l .loop .inv .4, sym line ∙ l .loop .inv .5)
 
 returns : tie.Need-returns Inv-loop μ-loop
@@ -78,12 +88,14 @@ shape-of-spec =
     (λ c κs. omega arith)
     (λ c. omega arith)
     loop-again
-    (λ c κs. omega arith)
+    (λ c. omega arith)
     (λ c. omega arith)
     loop-again-2
     (λ c. omega arith)
-    (λ c. omega arith)
     loop-again-3
     (λ c. omega arith)
+    (λ c. omega arith)
     loop-again-4
+    (λ c. omega arith)
+    loop-again-5
     returns)
