@@ -344,7 +344,7 @@ pub fn fill(s: &[u8], t: &[u16; 36865], from: usize, m: &mut [u32; 4099])
         windows::clear(m);
         return;
     }
-    let many = search::ahead(from, windows::MOST, s.len()) - from;
+    let many = flat::ahead(from, windows::MOST, s.len()) - from;
     begin(from, many, m);
     fill_part(s, t, from, many, m);
 }
