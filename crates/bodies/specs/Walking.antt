@@ -17,8 +17,8 @@ use Rattle.text_rules.specs.Search.{countAfter}
 use Rattle.source_rules.specs.Finding.{angleAfter, bodyAt, flat}
 use Rattle.source_rules.specs.WalkSteps.{body-end, body-step}
 use Rattle.blocks.specs.Blocks.{count-behind, count-most, countFrom}
-use Rattle.search.specs.BodyLaws.{passed}
-use Rattle.search.specs.LevelLaws.{body-same}
+use Rattle.flat.specs.BodyLaws.{passed}
+use Rattle.flat.specs.LevelLaws.{body-same}
 use Rattle.chunks.specs.Sums.{count-more}
 use Rattle.angles.specs.Angles.{Stack, Turned, above, above-before, above-behind, above-next, boundaryOf, empty-stack, same-or-not, stack-next}
 use Rattle.bodies.specs.Chain.{Chain, Fits, Pending, added, added-fits, set-elsewhere, set-there}

@@ -58,7 +58,7 @@ fn settle(
         m[2 + j] = number;
         heads[level] = links[j];
         head = angles::wide(links[j]);
-        left = search::less(left, 1);
+        left = flat::less(left, 1);
     }
     left
 }
@@ -267,8 +267,8 @@ fn step(
         at: at + 1,
         next: v.next,
         height,
-        opened: search::count_after(b'[', b, v.opened),
-        closed: search::count_after(b']', b, v.closed),
+        opened: flat::count_after(b'[', b, v.opened),
+        closed: flat::count_after(b']', b, v.closed),
         pending,
         low: v.low,
         high: v.high,

@@ -8,8 +8,8 @@ use Rattle.text_rules.specs.Classes.{roundClose, roundOpen, squareClose, square
 use Rattle.source_rules.specs.Brackets.{partner}
 use Rattle.source_rules.specs.Finding.{bodyAt}
 use Rattle.blocks.specs.Blocks.{countFrom}
-use Rattle.search.specs.Place.{Counted, bodyFrom}
-use Rattle.search.specs.declared.Counts.{Counts}
+use Rattle.flat.specs.Body.{Counted, bodyFrom}
+use Rattle.flat.specs.declared.Counts.{Counts}
 use Rattle.chunks.specs.declared.BodyPast.{BodyPast}
 use Rattle.chunks.specs.declared.BodyPast.the-variants.{Further, Held}
 use Rattle.chunks.specs.declared.Known.{Known}

@@ -7,8 +7,8 @@ use lib.ListN.{length, drop}
 use Rattle.text_rules.specs.Classes.{roundClose, roundOpen, squareClose, squareOpen}
 use Rattle.source_rules.specs.Brackets.{partner}
 use Rattle.blocks.specs.Blocks.{count-most}
-use Rattle.search.specs.Place.{Counted}
-use Rattle.search.specs.declared.Counts.{Counts}
+use Rattle.flat.specs.Body.{Counted}
+use Rattle.flat.specs.declared.Counts.{Counts}
 use Rattle.chunks.specs.Passing.{Misses, Summary, TellsCounts, TellsDepth}
 use Rattle.chunks.specs.Table.{Entry}
 use Rattle.chunks.specs.declared.BodyPast.the-variants.{Further}

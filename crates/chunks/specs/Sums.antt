@@ -16,9 +16,9 @@ use Rattle.source_rules.specs.Finding.{angleAfter, bodyAt, flat}
 use Rattle.source_rules.specs.MeasuresLaws.{count-after}
 use Rattle.source_rules.specs.WalkSteps.{partner-close, partner-open, partner-other}
 use Rattle.blocks.specs.Blocks.{count-behind, count-none, countFrom}
-use Rattle.search.specs.BodyLaws.{passed}
-use Rattle.search.specs.FlatLaws.{angle-raised, squares-raised}
-use Rattle.search.specs.Place.{Plain}
+use Rattle.flat.specs.Body.{Plain}
+use Rattle.flat.specs.BodyLaws.{passed}
+use Rattle.flat.specs.FlatLaws.{angle-raised, squares-raised}
 use Rattle.chunks.specs.Passing.{Misses, PassesBody, PassesRound}
 use Rattle.chunks.specs.declared.Chunk.{Chunk}
 

@@ -1,13 +1,13 @@
 // What a chunk of a text, 4,096 bytes, does to the searches that pass it. Once many searches have gone far, the sums of all chunks are written into a
 // table, and a search passes a chunk in which it cannot end without reading it.
-use search::Counts;
+use flat::Counts;
 ghost use mathlib.Core.Path.{_≡_};
 ghost use mathlib.Core.Bool.{true};
 ghost use mathlib.Core.List.{[], _∷_};
 ghost use Prim.Native.Nat.{_+_, _-_, _≤_, _<_, min, max};
 ghost use lib.ListN.{length, getD};
 ghost use Rattle.text_rules.specs.Classes.{angleClose, braceOpen, semicolon};
-ghost use Rattle.search.specs.Place.{Counted};
+ghost use Rattle.flat.specs.Body.{Counted};
 ghost use Rattle.chunks.specs.Passing.{Misses, PassesBody, PassesRound, TellsChunk, TellsCounts, TellsDepth};
 ghost use Rattle.chunks.specs.PastLaws.{countsPast};
 ghost use Rattle.chunks.specs.Sums.{Behind, Within, more};
@@ -392,7 +392,7 @@ fn counts_past(c: Chunk, n: Counts) -> Counts
     ensures { λ r. ⌜ r ≡ countsPast c n ⌝ }
 {
     Counts {
-        angle: search::less(n.angle, c.downs) + c.ups,
+        angle: flat::less(n.angle, c.downs) + c.ups,
         opened: n.opened + c.opened,
         closed: n.closed + c.closed,
     }

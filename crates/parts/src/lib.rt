@@ -158,8 +158,43 @@ fn behind_before(
     }
 }
 
-// The pass on from the last byte of the part, past chunks in which no bracket that waits is closed. It ends where none waits any more, and those that
-// wait at the end of the text have no partner.
+// The pass one turn on: past a chunk in which no bracket that waits is closed, or up to the next one.
+fn turn(
+    s: &[u8],
+    t: &[u16; 36865],
+    from: usize,
+    many: usize,
+    p: Pass,
+    opens: &[u16; 2048],
+    owners: &mut [u16; 2048],
+    starts: &mut [u32; 2048],
+) -> Pass
+    requires { ⌜
+        (p .at < length (now s))
+        × (0 < p .high)
+        × (many ≤ 2048)
+        × (length (now s) < 4294967295)
+        × (length (now opens) ≡ 2048)
+        × Passed (now s) (now opens) (now owners) (now starts) from many p
+        × Summed (now s) (now t)
+        ⌝ }
+    ensures { λ r. ⌜
+        (p .at < r .at)
+        × Passed (now (s .entry)) (now (opens .entry)) (now (owners .exit)) (now (starts .exit)) from many r
+        ⌝ }
+{
+    let past = chunks::round_past(s, t, p.at, p.inner);
+    let Past::Depth(inner) = past else {
+        let to = chunks::edge_after(p.at, s.len());
+        return behind_before(s, from, many, to, p, opens, owners, starts);
+    };
+    let mut q = p;
+    q.at += chunks::SIZE;
+    q.inner = inner;
+    q
+}
+
+// The pass on from the last byte of the part. It ends where no bracket waits any more, and those that wait at the end of the text have no partner.
 fn behind(
     s: &[u8],
     t: &[u16; 36865],
@@ -188,17 +223,7 @@ fn behind(
         if q.high == 0 {
             return q;
         }
-        let past = chunks::round_past(s, t, q.at, q.inner);
-        match past {
-            Past::Depth(inner) => {
-                q.at += chunks::SIZE;
-                q.inner = inner;
-            }
-            Past::Met => {
-                let to = chunks::edge_after(q.at, s.len());
-                q = behind_before(s, from, many, to, q, opens, owners, starts);
-            }
-        }
+        q = turn(s, t, from, many, q, opens, owners, starts);
     }
     q
 }
@@ -319,7 +344,7 @@ pub fn fill(s: &[u8], t: &[u16; 36865], from: usize, m: &mut [u32; 4099])
         windows::clear(m);
         return;
     }
-    let many = search::ahead(from, windows::MOST, s.len()) - from;
+    let many = flat::ahead(from, windows::MOST, s.len()) - from;
     begin(from, many, m);
     fill_part(s, t, from, many, m);
 }

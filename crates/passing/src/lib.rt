@@ -63,7 +63,7 @@ fn pass_bytes(s: &[u8], from: usize, start: usize, to: usize, x: u8, y: u8) -> S
         if b == y {
             return Spot { at, line };
         }
-        line = search::count_after(b'\n', b, line);
+        line = flat::count_after(b'\n', b, line);
         at += 1;
     }
     Spot { at, line }
@@ -92,7 +92,7 @@ pub fn pass_all(s: &[u8], from: usize, start: usize, to: usize) -> Spot
             line += n;
             at += blocks::WIDTH;
         } else {
-            line = search::count_after(b'\n', s[at], line);
+            line = flat::count_after(b'\n', s[at], line);
             at += 1;
         }
     }

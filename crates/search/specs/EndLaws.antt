@@ -1,8 +1,8 @@
--- Brackets that have no partner.
+-- Brackets that have no partner, and searches for a body behind the last brace.
 use Prim.Native.Nat.{ℕ, suc, zero, pred, _+_, _≤_}
 use mathlib.Core.Path.{_≡_, refl, sym, _∙_}
 use mathlib.Core.Logic.{_≢_, inl, inr}
-use mathlib.Core.Bool.{false}
+use mathlib.Core.Bool.{false, _&&_, and-false}
 use mathlib.Core.List.{List, [], _∷_}
 use mathlib.Core.Option.{none, some}
 use native.Mathlib.Omega.{arith}
@@ -11,7 +11,10 @@ use lib.Dec.{eqb}
 use lib.ListN.{drop, getD}
 use lib.Seq.{getD-drop}
 use Rattle.text_rules.specs.BytesLaws.{whether}
+use Rattle.text_rules.specs.Classes.{braceOpen, semicolon, squareClose, squareOpen}
+use Rattle.text_rules.specs.Search.{countAfter}
 use Rattle.source_rules.specs.Brackets.{depthAfter, partner}
+use Rattle.source_rules.specs.Finding.{angleAfter, bodyAt, flat}
 use Rattle.search.specs.Place.{Absent}
 
 -- a place is not none
@@ -58,3 +61,19 @@ module _ (opening closing : ℕ) where
       partner-more t (depthAfter opening closing b (suc m)) (depthAfter opening closing b (suc d)) (suc at) (depth-more b (suc m) (suc d) h) in
       let some-open : (n : ℕ) → eqb (suc n) 0 ≡ false = λ n. ne-eqb (suc n) 0 (λ z. omega arith) in
       elim (whether (eqb b closing)) [ inl k ↦ rw (k, some-open d) (again (rw (k, some-open m) at e)) | inr k ↦ rw k (again (rw k at e)) ]
+
+none-opens : (t : List ℕ) (angle opened closed at : ℕ) → ((k : ℕ) → getD t k 0 ≢ braceOpen) → bodyAt angle opened closed at t ≡ none
+unfolding bodyAt
+none-opens [] angle opened closed at h = refl
+none-opens (b ∷ t) angle opened closed at h =
+    rw (ne-eqb b braceOpen (h 0), and-false (flat angle opened closed))
+    (elim (whether (flat angle opened closed && eqb b semicolon)) [
+      | inl k ↦ rw k
+      | inr k ↦ rw k (none-opens t (angleAfter b angle) (countAfter squareOpen b opened) (countAfter squareClose b closed) (suc at) (λ i. h (suc i)))
+    ])
+
+-- behind the last brace there is no body
+pub no-body : (s : List ℕ) (last from angle opened closed : ℕ) → Absent braceOpen s last → last ≤ from → bodyAt angle opened closed from (drop from s) ≡ none
+unfolding Absent
+no-body s last from angle opened closed h i =
+    none-opens (drop from s) angle opened closed from (λ k e. h (from + k) (omega arith) (sym (getD-drop from s k 0) ∙ e))

@@ -1,7 +1,3 @@
--- A place as the code tells it, what is known of braces, and the laws of searches for a partner and for a body.
-pub mod BlockLaws
-pub mod BodyLaws
+-- A place as the code tells it, what is known of braces, and the laws of searches that find nothing.
 pub mod EndLaws
-pub mod FlatLaws
-pub mod LevelLaws
 pub mod Place

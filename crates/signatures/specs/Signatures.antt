@@ -6,8 +6,8 @@ use mathlib.Core.List.{List}
 use mathlib.Core.Option.{none, some}
 use native.Mathlib.Omega.{arith}
 use Rattle.text_rules.specs.BytesLaws.{some-same}
-use Rattle.search.specs.Place.{Counted, bodyFrom}
-use Rattle.search.specs.declared.Counts.{Counts}
+use Rattle.flat.specs.Body.{Counted, bodyFrom}
+use Rattle.flat.specs.declared.Counts.{Counts}
 use Rattle.chunks.specs.Passing.{TellsDepth}
 use Rattle.chunks.specs.declared.Past.the-variants.{Depth}
 use Rattle.parts.specs.Told.{NoBody, Told, bodyBehind, never, no-brace, soughtFrom}

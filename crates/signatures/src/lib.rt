@@ -3,15 +3,16 @@
 // A search that goes far passes chunks in which it cannot end without reading them.
 use chunks::BodyPast;
 use chunks::Past;
-use search::Counts;
+use flat::Counts;
+use flat::Reached;
 use search::Met;
 use search::Place;
-use search::Reached;
 ghost use mathlib.Core.Path.{_≡_};
 ghost use mathlib.Core.Option.{some};
 ghost use Prim.Native.Nat.{_+_, _≤_, _<_};
 ghost use lib.ListN.{length};
-ghost use Rattle.search.specs.Place.{Counted, bodyFrom, placeOf};
+ghost use Rattle.flat.specs.Body.{Counted, bodyFrom};
+ghost use Rattle.search.specs.Place.{placeOf};
 ghost use Rattle.chunks.specs.Table.{Summed};
 ghost use Rattle.parts.specs.Told.{Lent, bodyBehind, soughtFrom};
 ghost use Rattle.signatures.specs.Signatures.{Begins, Follows, nothingCounted};
@@ -97,7 +98,7 @@ fn far_body(s: &[u8], t: &[u16; 36865], closed: usize, from: usize, n: Counts) -
             }
             BodyPast::Held => {
                 let to = chunks::edge_after(at, s.len());
-                let met = search::body_before(s, at, to, counts);
+                let met = flat::body_before(s, at, to, counts);
                 match met {
                     Reached::Brace(body) => {
                         return Sought::Both(closed, body);
@@ -236,8 +237,8 @@ fn near_body(
     ensures { λ r. ⌜ Begins (now (s .entry)) from r × Lent (now (s .entry)) (now (m .exit)) (now (t .exit)) ⌝ }
 {
     let behind = closed + 1;
-    let near = search::ahead(behind, NEAR, s.len());
-    let met = search::body_before(s, behind, near, nothing());
+    let near = flat::ahead(behind, NEAR, s.len());
+    let met = flat::body_before(s, behind, near, nothing());
     match met {
         Reached::Brace(body) => Sought::Both(closed, body),
         Reached::Ended => Sought::Broken,
@@ -250,7 +251,7 @@ fn sought_after(s: &[u8], from: usize, m: &mut [u32; 4099], t: &mut [u16; 36865]
     requires { ⌜ (from ≤ length (now s)) × Lent (now s) (now m) (now t) ⌝ }
     ensures { λ r. ⌜ Begins (now (s .entry)) from r × Lent (now (s .entry)) (now (m .exit)) (now (t .exit)) ⌝ }
 {
-    let near = search::ahead(from, NEAR, s.len());
+    let near = flat::ahead(from, NEAR, s.len());
     let met = search::partner_before(s, b'(', b')', from, near, 0);
     match met {
         Met::Partner(closed) => near_body(s, from, closed, m, t),

@@ -27,8 +27,7 @@ use Rattle.source_rules.specs.WalkSteps.{functions-end, functions-some, sought-
 use Rattle.blocks.specs.Blocks.{count-behind, countFrom}
 use Rattle.passing.specs.Passing.{Passed}
 use Rattle.passing.specs.declared.Spot.{Spot}
-use Rattle.search.specs.EndLaws.{no-partner, none-some}
-use Rattle.search.specs.FlatLaws.{no-body}
+use Rattle.search.specs.EndLaws.{no-body, no-partner, none-some}
 use Rattle.search.specs.Place.{Learned}
 use Rattle.search.specs.declared.Learnt.{Learnt}
 use Rattle.source.specs.Cursors.{Barren, Calm, Closed, FoundAt, MeasuredAt, Passes, Quieter, Ready, SpanAt, Spanless, Yields, movedTo, remaining, remainingAt, textFun}

@@ -350,7 +350,7 @@ impl Cursor {
         let span = self.span_at(s);
         let mut c = self;
         c.at = at + 1;
-        c.line = search::count_after(b'\n', b, self.line);
+        c.line = flat::count_after(b'\n', b, self.line);
         c.span_end = span.end;
         c.spanless = span.spanless;
         let learnt = span.learnt;

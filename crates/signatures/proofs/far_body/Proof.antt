@@ -7,7 +7,7 @@ use borrow.Author.Needs.{needs}
 use denote.Ref.{now}
 use lib.ListN.{length}
 use Rattle.source_rules.specs.WalkSteps.{body-end}
-use Rattle.search.specs.Place.{Counted, Reaches, bodyFrom}
+use Rattle.flat.specs.Body.{Counted, Reaches, bodyFrom}
 use Rattle.chunks.specs.Passing.{TellsCounts}
 use Rattle.parts.specs.Told.{bodyBehind}
 use Rattle.signatures.proofs.far_body.Statement.{statement}

@@ -6,7 +6,7 @@ use borrow.Author.Needs.{needs}
 use denote.Ref.{now}
 use Rattle.text_rules.specs.Classes.{roundClose, roundOpen}
 use Rattle.source_rules.specs.PlaceLaws.{partner-place}
-use Rattle.search.specs.Place.{Reaches}
+use Rattle.flat.specs.Body.{Reaches}
 use Rattle.parts.specs.Told.{no-brace}
 use Rattle.signatures.specs.Signatures.{nothing-begins}
 use Rattle.signatures.proofs.near_body.Statement.{statement}

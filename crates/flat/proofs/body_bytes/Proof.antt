@@ -1,4 +1,4 @@
--- `search::body_bytes` meets its contract: at each turn the brace sought from `at` on, at the depths reached, is the one sought from the start
+-- `flat::body_bytes` meets its contract: at each turn the brace sought from `at` on, at the depths reached, is the one sought from the start
 -- on. Each byte has its law. The three counts are at most the place, so that they can be counted.
 use Prim.Native.Nat.{_≤_, _-_, _+_}
 use mathlib.Core.Path.{_≡_, refl, subst, sym, _∙_}
@@ -7,10 +7,10 @@ use borrow.Author.Needs.{needs}
 use lib.ListN.{drop}
 use Rattle.source_rules.specs.Finding.{bodyAt}
 use Rattle.source_rules.specs.WalkSteps.{body-step}
-use Rattle.search.specs.BodyLaws.{past-angle-close, past-angle-open, past-brace, past-semicolon, past-square-close, past-square-open, plain-passed}
-use Rattle.search.specs.Place.{bodyFrom}
-use Rattle.search.proofs.body_bytes.Statement.{statement}
-use Rattle.search.proofs.body_bytes.Tie as tie
+use Rattle.flat.specs.BodyLaws.{past-angle-close, past-angle-open, past-brace, past-semicolon, past-square-close, past-square-open, plain-passed}
+use Rattle.flat.specs.Body.{bodyFrom}
+use Rattle.flat.proofs.body_bytes.Statement.{statement}
+use Rattle.flat.proofs.body_bytes.Tie as tie
 
 abbrev Inv-loop : tie.InvT-loop
 Inv-loop s from to angle₀ opened₀ closed₀ at₀ angle opened closed at =

@@ -14,14 +14,14 @@ use Rattle.text_rules.specs.Classes.{angleClose, angleOpen, braceOpen, semicolo
 use Rattle.text_rules.specs.Search.{countAfter}
 use Rattle.source_rules.specs.Finding.{angleAfter, bodyAt, flat}
 use Rattle.blocks.specs.Blocks.{Lacks, count-behind, count-hit, count-most, count-sum, countFrom}
-use Rattle.search.specs.BodyLaws.{passed}
-use Rattle.search.specs.FlatLaws.{angle-raised, squares-raised}
-use Rattle.search.specs.Place.{Counted, Halts, Inside, Passable, Reaches, Tallies, bodyFrom, countsBehind}
-use Rattle.search.specs.declared.Counts.{Counts}
-use Rattle.search.specs.declared.Halt.{Halt}
-use Rattle.search.specs.declared.Reached.{Reached}
-use Rattle.search.specs.declared.Reached.the-variants.{Brace, Ended, Further}
-use Rattle.search.specs.declared.Tally.{Tally}
+use Rattle.flat.specs.BodyLaws.{passed}
+use Rattle.flat.specs.FlatLaws.{angle-raised, squares-raised}
+use Rattle.flat.specs.Body.{Counted, Halts, Inside, Passable, Reaches, Tallies, bodyFrom, countsBehind}
+use Rattle.flat.specs.declared.Counts.{Counts}
+use Rattle.flat.specs.declared.Halt.{Halt}
+use Rattle.flat.specs.declared.Reached.{Reached}
+use Rattle.flat.specs.declared.Reached.the-variants.{Brace, Ended, Further}
+use Rattle.flat.specs.declared.Tally.{Tally}
 
 -- the angle depth behind a byte, told by what was counted before it: a < may follow only where each > has closed one
 angle-behind : (b angle ups downs : ℕ) → (b ≢ angleOpen) ⊎ (downs ≤ angle) → angleAfter b (angle + ups - downs) ≡ angle + countAfter angleOpen b ups - countAfter angleClose b downs

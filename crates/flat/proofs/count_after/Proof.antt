@@ -1,11 +1,11 @@
--- `search::count_after` meets its contract: the definition's test.
+-- `flat::count_after` meets its contract: the definition's test.
 use native.Mathlib.Numerals.{add-one}
 use native.Mathlib.Omega.{arith}
 use borrow.Author.Needs.{needs}
 use borrow.Author.Tests.{eq-eqb, ne-eqb}
 use Rattle.text_rules.specs.Search.{countAfter}
-use Rattle.search.proofs.count_after.Statement.{statement}
-use Rattle.search.proofs.count_after.Tie as tie
+use Rattle.flat.proofs.count_after.Statement.{statement}
+use Rattle.flat.proofs.count_after.Tie as tie
 
 returns : tie.Need-returns
 unfolding countAfter

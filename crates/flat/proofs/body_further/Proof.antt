@@ -1,12 +1,12 @@
--- `search::body_further` meets its contract: what the blocks and the bytes of a turn pass follows what was passed before.
+-- `flat::body_further` meets its contract: what the blocks and the bytes of a turn pass follows what was passed before.
 use Prim.Native.Nat.{_-_}
 use mathlib.Core.Path.{refl, subst, _∙_}
 use native.Mathlib.Omega.{arith}
 use borrow.Author.Needs.{needs}
-use Rattle.search.specs.BlockLaws.{halts-end, halts-further, halts-then}
-use Rattle.search.specs.Place.{Halts, Reaches}
-use Rattle.search.proofs.body_further.Statement.{statement}
-use Rattle.search.proofs.body_further.Tie as tie
+use Rattle.flat.specs.BlockLaws.{halts-end, halts-further, halts-then}
+use Rattle.flat.specs.Body.{Halts, Reaches}
+use Rattle.flat.proofs.body_further.Statement.{statement}
+use Rattle.flat.proofs.body_further.Tie as tie
 
 abbrev Inv-loop : tie.InvT-loop
 Inv-loop s from to at₀ counts₀ at counts = Halts s from to counts₀ (record { at = at; counts = counts })

@@ -12,7 +12,7 @@ use Rattle.text_rules.specs.Classes.{angleClose, angleOpen, braceOpen, semicolo
 use Rattle.text_rules.specs.Search.{countAfter}
 use Rattle.source_rules.specs.Finding.{angleAfter, bodyAt, flat}
 use Rattle.source_rules.specs.WalkSteps.{body-step}
-use Rattle.search.specs.Place.{Plain}
+use Rattle.flat.specs.Body.{Plain}
 
 -- past a byte that ends nothing
 pub passed : (s : List ℕ) (angle opened closed at : ℕ) → at < length s → (flat angle opened closed ≡ false) ⊎ ((getD s at 0 ≢ braceOpen) × (getD s at 0 ≢ semicolon))

@@ -1,13 +1,13 @@
--- `search::body_blocks` meets its contract: a block that may be passed whole leaves the brace that is sought, with the counts behind it.
+-- `flat::body_blocks` meets its contract: a block that may be passed whole leaves the brace that is sought, with the counts behind it.
 use Prim.Native.Nat.{_-_}
 use mathlib.Core.Path.{refl}
 use native.Mathlib.Omega.{arith}
 use borrow.Author.Needs.{needs}
 use borrow.Author.Tests.{not-false}
-use Rattle.search.specs.BlockLaws.{block-halts, tally-most}
-use Rattle.search.specs.Place.{Halts}
-use Rattle.search.proofs.body_blocks.Statement.{statement}
-use Rattle.search.proofs.body_blocks.Tie as tie
+use Rattle.flat.specs.BlockLaws.{block-halts, tally-most}
+use Rattle.flat.specs.Body.{Halts}
+use Rattle.flat.proofs.body_blocks.Statement.{statement}
+use Rattle.flat.proofs.body_blocks.Tie as tie
 
 abbrev Inv-loop : tie.InvT-loop
 Inv-loop s from to at₀ counts₀ at counts = Halts s from to counts₀ (record { at = at; counts = counts })

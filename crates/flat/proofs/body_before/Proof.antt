@@ -1,11 +1,11 @@
--- `search::body_before` meets its contract: the search ends in the first bytes, or is made on from there.
+-- `flat::body_before` meets its contract: the search ends in the first bytes, or is made on from there.
 use mathlib.Core.Path.{subst}
 use native.Mathlib.Omega.{arith}
 use borrow.Author.Needs.{needs}
-use Rattle.search.specs.BlockLaws.{reaches-later}
-use Rattle.search.specs.Place.{Reaches}
-use Rattle.search.proofs.body_before.Statement.{statement}
-use Rattle.search.proofs.body_before.Tie as tie
+use Rattle.flat.specs.BlockLaws.{reaches-later}
+use Rattle.flat.specs.Body.{Reaches}
+use Rattle.flat.proofs.body_before.Statement.{statement}
+use Rattle.flat.proofs.body_before.Tie as tie
 
 body-further-requires : tie.Need-body-further-requires
 body-further-requires c κs =

@@ -1,4 +1,4 @@
--- `search::tallied` meets its contract: a bracket that the block lacks is there 0 times.
+-- `flat::tallied` meets its contract: a bracket that the block lacks is there 0 times.
 use Prim.Native.Nat.{ℕ}
 use mathlib.Core.Path.{_≡_, refl, sym, _∙_}
 use mathlib.Core.Logic.{⊎-elim}
@@ -8,9 +8,9 @@ use borrow.Author.Needs.{needs}
 use borrow.Author.Tests.{not-false}
 use Rattle.text_rules.specs.Classes.{angleClose, angleOpen, squareClose, squareOpen}
 use Rattle.blocks.specs.Blocks.{Lacks, countFrom}
-use Rattle.search.specs.BlockLaws.{count-lacking}
-use Rattle.search.proofs.tallied.Statement.{statement}
-use Rattle.search.proofs.tallied.Tie as tie
+use Rattle.flat.specs.BlockLaws.{count-lacking}
+use Rattle.flat.proofs.tallied.Statement.{statement}
+use Rattle.flat.proofs.tallied.Tie as tie
 
 -- `r` tells whether the block lacks x
 lacked : (s : List ℕ) (at x : ℕ) (r : Bool) → (r ≡ true → Lacks x s at 16) → not r ≡ false → (n : ℕ) → n ≡ 0 → n ≡ countFrom x s at 16

@@ -1,10 +1,10 @@
--- `search::is_inside` meets its contract: each of its tests is one of the cases.
+-- `flat::is_inside` meets its contract: each of its tests is one of the cases.
 use mathlib.Core.Logic.{inl, inr}
 use native.Mathlib.Omega.{arith}
 use borrow.Author.Needs.{needs}
 use borrow.Author.Tests.{ltb-true}
-use Rattle.search.proofs.is_inside.Statement.{statement}
-use Rattle.search.proofs.is_inside.Tie as tie
+use Rattle.flat.proofs.is_inside.Statement.{statement}
+use Rattle.flat.proofs.is_inside.Tie as tie
 
 returns : tie.Need-returns
 returns c = λ e. inl (omega (arith, c .before .before .less .ensures))

@@ -1,4 +1,4 @@
--- `search::is_passed` meets its contract: where it tells so, its tests have found one of the cases, in the numbers that were counted.
+-- `flat::is_passed` meets its contract: where it tells so, its tests have found one of the cases, in the numbers that were counted.
 use Prim.Native.Nat.{ℕ, _≤_, _<_, _-_}
 use mathlib.Core.Path.{_≡_, refl, sym, _∙_}
 use mathlib.Core.Logic.{_⊎_, inl, inr, ⊎-elim}
@@ -10,11 +10,11 @@ use borrow.Author.Tests.{not-false}
 use Rattle.text_rules.specs.BytesLaws.{true-false}
 use Rattle.text_rules.specs.Classes.{angleClose, angleOpen}
 use Rattle.blocks.specs.Blocks.{countFrom}
-use Rattle.search.specs.Place.{Inside, Tallies}
-use Rattle.search.specs.declared.Counts.{Counts}
-use Rattle.search.specs.declared.Tally.{Tally}
-use Rattle.search.proofs.is_passed.Statement.{statement}
-use Rattle.search.proofs.is_passed.Tie as tie
+use Rattle.flat.specs.Body.{Inside, Tallies}
+use Rattle.flat.specs.declared.Counts.{Counts}
+use Rattle.flat.specs.declared.Tally.{Tally}
+use Rattle.flat.proofs.is_passed.Statement.{statement}
+use Rattle.flat.proofs.is_passed.Tie as tie
 
 module _ (s : List ℕ) (at : ℕ) (n : Counts) (t : Tally) (e : Tallies s at t) where
   angles : (t .ups ≡ 0) ⊎ (t .downs ≤ n .angle) → (countFrom angleOpen s at 16 ≡ 0) ⊎ (countFrom angleClose s at 16 ≤ n .angle)
