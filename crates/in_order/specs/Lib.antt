@@ -4,3 +4,6 @@ pub mod InOrder
 pub mod Common
 pub mod Whole
 pub mod Paths
+pub mod Rise
+pub mod Passing
+pub mod Runs

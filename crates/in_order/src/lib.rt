@@ -22,6 +22,7 @@ ghost use Rattle.in_order.specs.Common.{common, commonWith};
 ghost use Rattle.in_order.specs.InOrder.{addedIn, latest, repeats};
 ghost use Rattle.in_order.specs.KeyLines.{Sizes, Written, keyLines};
 ghost use Rattle.in_order.specs.Paths.{Finds, Knows, OfLine, PathLength};
+ghost use Rattle.in_order.specs.Runs.{Behind, Passes, ReadNext};
 ghost use Rattle.in_order.specs.StaleKeys.{AllStand, staleIn};
 ghost use Rattle.in_order.specs.Whole.{AllPlain, PlainOrNote, Whole, firstField, keysAt, lineEnd, secondTab, tabFrom};
 use baseline::Key;
@@ -424,6 +425,105 @@ fn put_line(
     }
 }
 
+// Whether a line goes on behind the last key where the two differ, or where the key ends.
+fn is_behind(lines: &[u8], last: Key, from: usize, common: usize) -> bool
+    requires { ⌜
+        KeyInside (now lines) last
+        × (from < length (now lines))
+        × (common ≡ commonWith (keyIn (now lines) last) (part from (length (now lines)) (now lines)))
+        ⌝ }
+    ensures { λ r. ⌜ (r ≡ true → Behind (now (lines .entry)) last from common) ⌝ }
+{
+    match last {
+        Key::Bytes(a, b) => {
+            if lines.len() - from <= common {
+                return false;
+            }
+            if b - a <= common {
+                return lines[from + common] != TAB;
+            }
+            lines[a + common] < lines[from + common]
+        }
+        Key::Nothing => false,
+    }
+}
+
+// The line at a place, where it is plain and has the path of the last key, which no function has, and a key behind it.
+fn next_line(lines: &[u8], last: Last, from: usize) -> Plain
+    requires { ⌜
+        KeyInside (now lines) (last .key)
+        × (last .plain ≡ true → PlainKey (now lines) (last .key) (last .path))
+        × (from < length (now lines))
+        ⌝ }
+    ensures { λ r. ⌜ ReadNext (now (lines .entry)) last from r ⌝ }
+{
+    if !last.plain {
+        return Plain::Other;
+    }
+    if last.from < last.to {
+        return Plain::Other;
+    }
+    let key = last.key;
+    let common = common_with(lines, key, from, lines.len());
+    if common <= last.path {
+        return Plain::Other;
+    }
+    if !is_behind(lines, key, from, common) {
+        return Plain::Other;
+    }
+    baseline::plain_rest(lines, from, from + last.path, from + common)
+}
+
+// What is known of the last key behind some lines, where these end, how many keys they add, and the bytes of the lines of these.
+struct Run {
+    last: Last,
+    from: usize,
+    count: usize,
+    bytes: usize,
+}
+
+// The lines at a place that add their keys one after another, none of which has to be looked up.
+fn run_at(tree: &[u8], lines: &[u8], start: Last, place: usize) -> Run
+    requires { ⌜ Knows (now tree) (now lines) start × (length (now lines) ≤ 33554432) ⌝ }
+    ensures { λ r. ⌜ Passes (now (tree .entry)) (now (lines .entry)) start place r ⌝ }
+{
+    let mut last = start;
+    let mut from = place;
+    let mut count: usize = 0;
+    let mut bytes: usize = 0;
+    while from < lines.len() {
+        match next_line(lines, last, from) {
+            Plain::Line(l) => {
+                let seen = Last {
+                    key: Key::Bytes(from, l.name),
+                    path: l.path,
+                    from: last.from,
+                    to: last.to,
+                    plain: true,
+                };
+                count += 1;
+                bytes += 3 + (l.name - from);
+                last = seen;
+                from = l.end + 1;
+            }
+            Plain::Other => {
+                return Run {
+                    last,
+                    from,
+                    count,
+                    bytes,
+                };
+            }
+        }
+    }
+    Run {
+        last,
+        from,
+        count,
+        bytes,
+    }
+}
+
 // Whether the line at a place leaves the baseline whole: it is plain and adds a key, or it starts with #.
 fn stays_whole(lines: &[u8], from: usize, whole: bool, plain: bool, added: usize) -> bool
     requires { ⌜ from < length (now lines) ⌝ }
@@ -480,10 +580,11 @@ pub fn measure(tree: &[u8], lent: &[u8], n: usize, lines: &[u8]) -> Gone
         let seen = after(tree, lent, n, lines, last, here);
         let size = line_size(tree, lent, n, lines, key, here, seen);
         whole = stays_whole(lines, from, whole, here.plain, size.count);
-        count += size.count;
-        bytes += size.bytes;
-        last = seen;
-        from = here.end + 1;
+        let run = run_at(tree, lines, seen, here.end + 1);
+        count += size.count + run.count;
+        bytes += size.bytes + run.bytes;
+        last = run.last;
+        from = run.from;
     }
     Gone {
         ordered: true,
