@@ -14,7 +14,7 @@ use Rattle.gate_rules.specs.Baseline.{entryOf}
 use Rattle.baseline.specs.declared.Bounds.{Bounds}
 use Rattle.baseline.specs.Plain.{Front, PlainKey, PlainLine}
 use Rattle.baseline.specs.Reads.{keyIn, keyOfEntry}
-use Rattle.in_order.specs.Common.{common, common-bytes, common-least, common-most, common-take, commonWith}
+use Rattle.prefix.specs.Common.{common, common-bytes, common-least, common-most, common-take, commonWith}
 use Rattle.in_order.specs.Paths.{Finds, OfLine, meets-line, part-byte, part-length}
 use Rattle.in_order.specs.declared.Found.{Found}
 

@@ -1,13 +1,13 @@
 -- Lines one behind another that each add their key.
-use Prim.Native.Nat.{ℕ, suc, _+_, _-_, _*_, _≤_, _<_, min}
-use mathlib.Core.Path.{_≡_, refl, ap, subst, sym, _∙_}
+use Prim.Native.Nat.{ℕ, _+_, _-_, _≤_, _<_, min}
+use mathlib.Core.Path.{_≡_, refl, ap, sym, _∙_}
 use mathlib.Core.Logic.{_≢_, inl, inr}
 use mathlib.Core.Bool.{true, false}
-use mathlib.Core.List.{List, _∷_, _++_, map}
-use mathlib.Core.Option.{Option, some}
+use mathlib.Core.List.{List, _++_, map}
+use mathlib.Core.Option.{some}
 use native.Mathlib.Omega.{arith}
 use lib.Dec.{eqb, ltb}
-use lib.ListN.{length, drop, getD}
+use lib.ListN.{length, getD}
 use borrow.Author.Tests.{eqb-false, eqb-true, le-ltb, ltb-false, ltb-true}
 use Rattle.text_rules.specs.Bytes.{among}
 use Rattle.text_rules.specs.BytesLaws.{true-false, whether}
@@ -16,7 +16,7 @@ use Rattle.text_rules.specs.Search.{part}
 use Rattle.gate_rules.specs.Functions.{key}
 use Rattle.gate_rules.specs.Gate.{gate}
 use Rattle.gate_rules.specs.Scan.{functionsOf}
-use Rattle.baseline.specs.Ordered.{fallen, keysIn}
+use Rattle.baseline.specs.Ordered.{fallen}
 use Rattle.baseline.specs.Plain.{Front, PlainKey, PlainLine, ReadPlain}
 use Rattle.baseline.specs.Reads.{KeyInside, keyIn}
 use Rattle.baseline.specs.declared.Bounds.{Bounds}
@@ -25,7 +25,7 @@ use Rattle.baseline.specs.declared.Key.the-variants.{Bytes, Nothing}
 use Rattle.baseline.specs.declared.Plain.{Plain}
 use Rattle.baseline.specs.declared.Plain.the-variants.{Line, Other}
 use Rattle.live.specs.Live.{decided}
-use Rattle.in_order.specs.Common.{common, commonWith}
+use Rattle.prefix.specs.Common.{common, commonWith}
 use Rattle.in_order.specs.InOrder.{addedIn, repeats}
 use Rattle.in_order.specs.KeyLines.{keyLines}
 use Rattle.in_order.specs.Passing.{adds-key, bytes-step, come-line, count-step, known-rest, sizes-one, toCome}
@@ -35,7 +35,6 @@ use Rattle.in_order.specs.Runs.{Behind, Follows, Passes, ReadNext}
 use Rattle.in_order.specs.Whole.{plain-next}
 use Rattle.in_order.specs.declared.Found.{Found}
 use Rattle.in_order.specs.declared.Last.{Last}
-use Rattle.in_order.specs.declared.Run.{Run}
 use Rattle.in_order.proofs.PlainKeys.{few, moved, plain-finds, plain-of-line}
 use Rattle.in_order.proofs.Wholes.{plain-count}
 

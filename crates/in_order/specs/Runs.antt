@@ -2,7 +2,6 @@
 use Prim.Native.Nat.{ℕ, _+_, _*_, _≤_, _<_}
 use mathlib.Core.Path.{_≡_}
 use mathlib.Core.Logic.{_≢_}
-use mathlib.Core.Bool.{true}
 use mathlib.Core.List.{List}
 use lib.ListN.{length, drop, getD}
 use Rattle.text_rules.specs.Classes.{tab}
@@ -15,7 +14,7 @@ use Rattle.baseline.specs.declared.Key.{Key}
 use Rattle.baseline.specs.declared.Key.the-variants.{Bytes, Nothing}
 use Rattle.baseline.specs.declared.Plain.{Plain}
 use Rattle.baseline.specs.declared.Plain.the-variants.{Line, Other}
-use Rattle.in_order.specs.Common.{commonWith}
+use Rattle.prefix.specs.Common.{commonWith}
 use Rattle.in_order.specs.KeyLines.{keyLines}
 use Rattle.in_order.specs.Passing.{toCome}
 use Rattle.in_order.specs.Paths.{Knows}

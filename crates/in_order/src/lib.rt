@@ -14,11 +14,11 @@ ghost use Rattle.gate_rules.specs.Baseline.{entryOf};
 ghost use Rattle.gate_rules.specs.Functions.{key};
 ghost use Rattle.gate_rules.specs.Gate.{gate};
 ghost use Rattle.gate_rules.specs.Scan.{functionsOf};
+ghost use Rattle.prefix.specs.Common.{commonWith};
 ghost use Rattle.baseline.specs.Ordered.{Unfalling, fallen, keysIn};
 ghost use Rattle.baseline.specs.Plain.{PlainKey, ReadPlain};
 ghost use Rattle.baseline.specs.Reads.{KeyInside, keyIn, keyOfEntry};
 ghost use Rattle.baseline.specs.declared.Key.the-variants.{Bytes};
-ghost use Rattle.in_order.specs.Common.{common, commonWith};
 ghost use Rattle.in_order.specs.InOrder.{addedIn, latest, repeats};
 ghost use Rattle.in_order.specs.KeyLines.{Sizes, Written, keyLines};
 ghost use Rattle.in_order.specs.Paths.{Finds, Knows, OfLine, PathLength};
@@ -79,76 +79,13 @@ fn least(a: usize, b: usize) -> usize
     b
 }
 
-// Whether the `n` bytes at a place are the same in both texts: where `n` is eight or four, the compiler compares them at once.
-fn alike(s: &[u8], t: &[u8], at: usize, n: usize) -> bool
-    requires { ⌜ (at + n ≤ length (now s)) × (at + n ≤ length (now t)) ⌝ }
-    ensures { λ r. ⌜
-        (r ≡ true → common (drop at (now (s .entry))) (drop at (now (t .entry))) ≡ n + common (drop (at + n) (now (s .entry))) (drop (at + n) (now (t .entry))))
-        ⌝ }
-{
-    let mut all = true;
-    let mut i: usize = 0;
-    while i < n {
-        if s[at + i] != t[at + i] {
-            all = false;
-        }
-        i += 1;
-    }
-    all
-}
-
-// Past the eights that are the same in both texts, of which the shorter has `most` bytes.
-fn past_eights(s: &[u8], t: &[u8], most: usize) -> usize
-    requires { ⌜ most ≡ min (length (now s)) (length (now t)) ⌝ }
-    ensures { λ r. ⌜ (r ≤ most) × (r + common (drop r (now (s .entry))) (drop r (now (t .entry))) ≡ common (now (s .entry)) (now (t .entry))) ⌝ }
-{
-    let mut at = 0;
-    while 8 <= most - at {
-        if !alike(s, t, at, 8) {
-            return at;
-        }
-        at += 8;
-    }
-    at
-}
-
-// Past the eights and a four that are the same in both texts.
-fn past_alike(s: &[u8], t: &[u8], most: usize) -> usize
-    requires { ⌜ most ≡ min (length (now s)) (length (now t)) ⌝ }
-    ensures { λ r. ⌜ (r ≤ most) × (r + common (drop r (now (s .entry))) (drop r (now (t .entry))) ≡ common (now (s .entry)) (now (t .entry))) ⌝ }
-{
-    let at = past_eights(s, t, most);
-    if most - at < 4 {
-        return at;
-    }
-    if !alike(s, t, at, 4) {
-        return at;
-    }
-    at + 4
-}
-
-// How many bytes two texts have in common from their starts on.
-fn common(s: &[u8], t: &[u8]) -> usize
-    ensures { λ r. ⌜ r ≡ common (now (s .entry)) (now (t .entry)) ⌝ }
-{
-    let most = least(s.len(), t.len());
-    let mut i = past_alike(s, t, most);
-    while i < most {
-        if s[i] != t[i] {
-            return i;
-        }
-        i += 1;
-    }
-    i
-}
-
 // How many bytes a line has in common with the last key.
 fn common_with(lines: &[u8], last: Key, from: usize, to: usize) -> usize
     requires { ⌜ KeyInside (now lines) last × (from ≤ to) × (to ≤ length (now lines)) ⌝ }
     ensures { λ r. ⌜ r ≡ commonWith (keyIn (now (lines .entry)) last) (part from to (now (lines .entry))) ⌝ }
 {
     match last {
-        Key::Bytes(a, b) => common(&lines[a..b], &lines[from..to]),
+        Key::Bytes(a, b) => prefix::common(&lines[a..b], &lines[from..to]),
         Key::Nothing => 0,
     }
 }
@@ -448,7 +385,7 @@ fn is_behind(lines: &[u8], last: Key, from: usize, common: usize) -> bool
     }
 }
 
-// The line at a place, where it is plain and has the path of the last key, which no function has, and a key behind it.
+// The line at a place, where it is plain, no function has the path of the last key, and the line has that path and a key behind the last one.
 fn next_line(lines: &[u8], last: Last, from: usize) -> Plain
     requires { ⌜
         KeyInside (now lines) (last .key)
