@@ -1,5 +1,4 @@
 -- The laws that the functions cite.
-mod Rise
-mod Passing
 mod PlainKeys
 mod Wholes
+mod Runs

@@ -14,7 +14,7 @@ use Rattle.gate_rules.specs.Baseline.{entryOf}
 use Rattle.baseline.specs.declared.Bounds.{Bounds}
 use Rattle.baseline.specs.Plain.{Front, PlainKey, PlainLine}
 use Rattle.baseline.specs.Reads.{keyIn, keyOfEntry}
-use Rattle.in_order.specs.Common.{common, common-bytes, common-least, common-most, common-take, commonWith}
+use Rattle.prefix.specs.Common.{common, common-bytes, common-least, common-most, common-take, commonWith}
 use Rattle.in_order.specs.Paths.{Finds, OfLine, meets-line, part-byte, part-length}
 use Rattle.in_order.specs.declared.Found.{Found}
 
@@ -24,13 +24,13 @@ shared-part none s from end m e = omega (arith, e)
 shared-part (some l) s from end m e = omega (arith, e, ap (common l) (rest-part s from), common-take l (drop from s) (end - from))
 
 module _ (s : List ℕ) (a b from path c : ℕ) (f : Front s a (a + path) b) (h : from < length s) (e : c ≡ common (part a b s) (part from (length s) s)) (p : path < c) where
-  few : (c ≤ b - a) × (c ≤ length s - from)
+  pub few : (c ≤ b - a) × (c ≤ length s - from)
   few =
       let size = part-length s a b (omega (arith, f .goes-on), f .inside) in
       let rest = part-length s from (length s) (omega arith, omega arith) in
       (omega (arith, e, size, common-least (part a b s) (part from (length s) s)), omega (arith, e, rest, common-most (part a b s) (part from (length s) s)))
 
-  moved : (i : ℕ) → from ≤ i → i < from + c → getD s (a + (i - from)) 0 ≡ getD s i 0
+  pub moved : (i : ℕ) → from ≤ i → i < from + c → getD s (a + (i - from)) 0 ≡ getD s i 0
   moved i k l =
       let there : from + (i - from) ≡ i = omega arith in
       sym (part-byte s a b (i - from) (omega (arith, few)))

@@ -28,7 +28,7 @@ use Rattle.baseline.specs.Reads.{keyOfEntry, lineAt}
 use Rattle.in_order.specs.KeyLines.{keyLines}
 use Rattle.in_order.specs.Paths.{part-byte}
 use Rattle.in_order.specs.Whole.{Begins, PlainAt, begins-next, firstField, keysAt, lineEnd, no-mark, secondTab, tabFrom}
-use Rattle.in_order.proofs.Passing.{sizes-one}
+use Rattle.in_order.specs.Passing.{sizes-one}
 
 -- ---- a field byte by byte
 

@@ -1,6 +1,8 @@
 pub mod StaleKeys
 pub mod KeyLines
 pub mod InOrder
-pub mod Common
 pub mod Whole
 pub mod Paths
+pub mod Rise
+pub mod Passing
+pub mod Runs

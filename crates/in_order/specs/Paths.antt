@@ -22,7 +22,7 @@ use Rattle.baseline.specs.declared.Key.the-variants.{Bytes, Nothing}
 use Rattle.baseline.specs.Plain.{PlainKey}
 use Rattle.baseline.specs.Reads.{KeyFrom, KeyInside, keyIn, keyOfEntry, lineAt}
 use Rattle.live.specs.Live.{Only, pathOf}
-use Rattle.in_order.specs.Common.{before-past, before-there, before-within, common-most, common-path, commonWith, front-path, same-there, same-within}
+use Rattle.prefix.specs.Common.{before-past, before-there, before-within, common-most, common-path, commonWith, front-path, same-there, same-within}
 use Rattle.in_order.specs.Whole.{PlainAt}
 use Rattle.in_order.specs.declared.Found.{Found}
 use Rattle.in_order.specs.declared.Last.{Last}

@@ -14,14 +14,15 @@ ghost use Rattle.gate_rules.specs.Baseline.{entryOf};
 ghost use Rattle.gate_rules.specs.Functions.{key};
 ghost use Rattle.gate_rules.specs.Gate.{gate};
 ghost use Rattle.gate_rules.specs.Scan.{functionsOf};
+ghost use Rattle.prefix.specs.Common.{commonWith};
 ghost use Rattle.baseline.specs.Ordered.{Unfalling, fallen, keysIn};
 ghost use Rattle.baseline.specs.Plain.{PlainKey, ReadPlain};
 ghost use Rattle.baseline.specs.Reads.{KeyInside, keyIn, keyOfEntry};
 ghost use Rattle.baseline.specs.declared.Key.the-variants.{Bytes};
-ghost use Rattle.in_order.specs.Common.{common, commonWith};
 ghost use Rattle.in_order.specs.InOrder.{addedIn, latest, repeats};
 ghost use Rattle.in_order.specs.KeyLines.{Sizes, Written, keyLines};
 ghost use Rattle.in_order.specs.Paths.{Finds, Knows, OfLine, PathLength};
+ghost use Rattle.in_order.specs.Runs.{Behind, Passes, ReadNext};
 ghost use Rattle.in_order.specs.StaleKeys.{AllStand, staleIn};
 ghost use Rattle.in_order.specs.Whole.{AllPlain, PlainOrNote, Whole, firstField, keysAt, lineEnd, secondTab, tabFrom};
 use baseline::Key;
@@ -78,76 +79,13 @@ fn least(a: usize, b: usize) -> usize
     b
 }
 
-// Whether the `n` bytes at a place are the same in both texts: where `n` is eight or four, the compiler compares them at once.
-fn alike(s: &[u8], t: &[u8], at: usize, n: usize) -> bool
-    requires { ⌜ (at + n ≤ length (now s)) × (at + n ≤ length (now t)) ⌝ }
-    ensures { λ r. ⌜
-        (r ≡ true → common (drop at (now (s .entry))) (drop at (now (t .entry))) ≡ n + common (drop (at + n) (now (s .entry))) (drop (at + n) (now (t .entry))))
-        ⌝ }
-{
-    let mut all = true;
-    let mut i: usize = 0;
-    while i < n {
-        if s[at + i] != t[at + i] {
-            all = false;
-        }
-        i += 1;
-    }
-    all
-}
-
-// Past the eights that are the same in both texts, of which the shorter has `most` bytes.
-fn past_eights(s: &[u8], t: &[u8], most: usize) -> usize
-    requires { ⌜ most ≡ min (length (now s)) (length (now t)) ⌝ }
-    ensures { λ r. ⌜ (r ≤ most) × (r + common (drop r (now (s .entry))) (drop r (now (t .entry))) ≡ common (now (s .entry)) (now (t .entry))) ⌝ }
-{
-    let mut at = 0;
-    while 8 <= most - at {
-        if !alike(s, t, at, 8) {
-            return at;
-        }
-        at += 8;
-    }
-    at
-}
-
-// Past the eights and a four that are the same in both texts.
-fn past_alike(s: &[u8], t: &[u8], most: usize) -> usize
-    requires { ⌜ most ≡ min (length (now s)) (length (now t)) ⌝ }
-    ensures { λ r. ⌜ (r ≤ most) × (r + common (drop r (now (s .entry))) (drop r (now (t .entry))) ≡ common (now (s .entry)) (now (t .entry))) ⌝ }
-{
-    let at = past_eights(s, t, most);
-    if most - at < 4 {
-        return at;
-    }
-    if !alike(s, t, at, 4) {
-        return at;
-    }
-    at + 4
-}
-
-// How many bytes two texts have in common from their starts on.
-fn common(s: &[u8], t: &[u8]) -> usize
-    ensures { λ r. ⌜ r ≡ common (now (s .entry)) (now (t .entry)) ⌝ }
-{
-    let most = least(s.len(), t.len());
-    let mut i = past_alike(s, t, most);
-    while i < most {
-        if s[i] != t[i] {
-            return i;
-        }
-        i += 1;
-    }
-    i
-}
-
 // How many bytes a line has in common with the last key.
 fn common_with(lines: &[u8], last: Key, from: usize, to: usize) -> usize
     requires { ⌜ KeyInside (now lines) last × (from ≤ to) × (to ≤ length (now lines)) ⌝ }
     ensures { λ r. ⌜ r ≡ commonWith (keyIn (now (lines .entry)) last) (part from to (now (lines .entry))) ⌝ }
 {
     match last {
-        Key::Bytes(a, b) => common(&lines[a..b], &lines[from..to]),
+        Key::Bytes(a, b) => prefix::common(&lines[a..b], &lines[from..to]),
         Key::Nothing => 0,
     }
 }
@@ -424,6 +362,105 @@ fn put_line(
     }
 }
 
+// Whether a line goes on behind the last key where the two differ, or where the key ends.
+fn is_behind(lines: &[u8], last: Key, from: usize, common: usize) -> bool
+    requires { ⌜
+        KeyInside (now lines) last
+        × (from < length (now lines))
+        × (common ≡ commonWith (keyIn (now lines) last) (part from (length (now lines)) (now lines)))
+        ⌝ }
+    ensures { λ r. ⌜ (r ≡ true → Behind (now (lines .entry)) last from common) ⌝ }
+{
+    match last {
+        Key::Bytes(a, b) => {
+            if lines.len() - from <= common {
+                return false;
+            }
+            if b - a <= common {
+                return lines[from + common] != TAB;
+            }
+            lines[a + common] < lines[from + common]
+        }
+        Key::Nothing => false,
+    }
+}
+
+// The line at a place, where it is plain, no function has the path of the last key, and the line has that path and a key behind the last one.
+fn next_line(lines: &[u8], last: Last, from: usize) -> Plain
+    requires { ⌜
+        KeyInside (now lines) (last .key)
+        × (last .plain ≡ true → PlainKey (now lines) (last .key) (last .path))
+        × (from < length (now lines))
+        ⌝ }
+    ensures { λ r. ⌜ ReadNext (now (lines .entry)) last from r ⌝ }
+{
+    if !last.plain {
+        return Plain::Other;
+    }
+    if last.from < last.to {
+        return Plain::Other;
+    }
+    let key = last.key;
+    let common = common_with(lines, key, from, lines.len());
+    if common <= last.path {
+        return Plain::Other;
+    }
+    if !is_behind(lines, key, from, common) {
+        return Plain::Other;
+    }
+    baseline::plain_rest(lines, from, from + last.path, from + common)
+}
+
+// What is known of the last key behind some lines, where these end, how many keys they add, and the bytes of the lines of these.
+struct Run {
+    last: Last,
+    from: usize,
+    count: usize,
+    bytes: usize,
+}
+
+// The lines at a place that add their keys one after another, none of which has to be looked up.
+fn run_at(tree: &[u8], lines: &[u8], start: Last, place: usize) -> Run
+    requires { ⌜ Knows (now tree) (now lines) start × (length (now lines) ≤ 33554432) ⌝ }
+    ensures { λ r. ⌜ Passes (now (tree .entry)) (now (lines .entry)) start place r ⌝ }
+{
+    let mut last = start;
+    let mut from = place;
+    let mut count: usize = 0;
+    let mut bytes: usize = 0;
+    while from < lines.len() {
+        match next_line(lines, last, from) {
+            Plain::Line(l) => {
+                let seen = Last {
+                    key: Key::Bytes(from, l.name),
+                    path: l.path,
+                    from: last.from,
+                    to: last.to,
+                    plain: true,
+                };
+                count += 1;
+                bytes += 3 + (l.name - from);
+                last = seen;
+                from = l.end + 1;
+            }
+            Plain::Other => {
+                return Run {
+                    last,
+                    from,
+                    count,
+                    bytes,
+                };
+            }
+        }
+    }
+    Run {
+        last,
+        from,
+        count,
+        bytes,
+    }
+}
+
 // Whether the line at a place leaves the baseline whole: it is plain and adds a key, or it starts with #.
 fn stays_whole(lines: &[u8], from: usize, whole: bool, plain: bool, added: usize) -> bool
     requires { ⌜ from < length (now lines) ⌝ }
@@ -480,10 +517,11 @@ pub fn measure(tree: &[u8], lent: &[u8], n: usize, lines: &[u8]) -> Gone
         let seen = after(tree, lent, n, lines, last, here);
         let size = line_size(tree, lent, n, lines, key, here, seen);
         whole = stays_whole(lines, from, whole, here.plain, size.count);
-        count += size.count;
-        bytes += size.bytes;
-        last = seen;
-        from = here.end + 1;
+        let run = run_at(tree, lines, seen, here.end + 1);
+        count += size.count + run.count;
+        bytes += size.bytes + run.bytes;
+        last = run.last;
+        from = run.from;
     }
     Gone {
         ordered: true,

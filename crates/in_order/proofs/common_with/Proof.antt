@@ -4,7 +4,7 @@ use denote.Ref.{now}
 use borrow.Author.Needs.{needs}
 use Rattle.text_rules.specs.Search.{part}
 use Rattle.baseline.specs.Reads.{KeyInside, keyIn}
-use Rattle.in_order.specs.Common.{commonWith}
+use Rattle.prefix.specs.Common.{commonWith}
 use Rattle.in_order.proofs.common_with.Statement.{statement}
 use Rattle.in_order.proofs.common_with.Tie as tie
 

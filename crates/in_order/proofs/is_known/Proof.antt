@@ -8,7 +8,7 @@ use Rattle.gate_rules.specs.Gate.{gate}
 use Rattle.gate_rules.specs.Scan.{functionsOf}
 use Rattle.live.specs.Live.{decided}
 use Rattle.in_order.specs.Paths.{knows-inside, knows-only}
-use Rattle.in_order.proofs.Passing.{known-last, known-rest}
+use Rattle.in_order.specs.Passing.{known-last, known-rest}
 use Rattle.in_order.proofs.is_known.Statement.{statement}
 use Rattle.in_order.proofs.is_known.Tie as tie
 

@@ -6,7 +6,7 @@ use denote.Ref.{now}
 use borrow.Author.Needs.{needs}
 use Rattle.baseline.specs.Reads.{KeyInside}
 use Rattle.in_order.specs.InOrder.{latest}
-use Rattle.in_order.proofs.Passing.{adds-key, adds-none, adds-nothing, sizes-none, sizes-one}
+use Rattle.in_order.specs.Passing.{adds-key, adds-none, adds-nothing, sizes-none, sizes-one}
 use Rattle.in_order.proofs.line_size.Statement.{statement}
 use Rattle.in_order.proofs.line_size.Tie as tie
 

@@ -21,8 +21,8 @@ use Rattle.in_order.specs.InOrder.{addedIn, latest}
 use Rattle.in_order.specs.KeyLines.{keyLines}
 use Rattle.in_order.specs.Paths.{Knows, knows-start}
 use Rattle.in_order.specs.Whole.{PlainTo, in-order-all, plain-next}
-use Rattle.in_order.proofs.Passing.{bytes-step, come-all, come-end, come-line, come-small, count-step, none-bytes, toCome}
-use Rattle.in_order.proofs.Rise.{Risen, risen-end, risen-next, risen-start}
+use Rattle.in_order.specs.Passing.{bytes-step, come-all, come-end, come-line, come-small, count-step, none-bytes, toCome}
+use Rattle.in_order.specs.Rise.{Risen, risen-end, risen-next, risen-start}
 use Rattle.in_order.proofs.Wholes.{note-keys, plain-count}
 use Rattle.in_order.proofs.measure.Statement.{statement}
 use Rattle.in_order.proofs.measure.Tie as tie
@@ -65,57 +65,23 @@ line-size-requires c κs =
     let p = l .before .before .before .before .pre in
     (p .0, l .loop .inv .0 .inside, k .line-at .ensures .1, p .2, c .after .ensures .1, c .after .ensures .0)
 
-add-count : tie.Need-add-count Inv-loop μ-loop
-add-count c =
-    let line = c .before .before in
-    let k = line .before .before .before .before in
-    let l = k .before .before in
-    let s = l .before .before .before .before in
-    let tree = now (s .args .tree) in
-    let lines = now (s .args .lines) in
-    let last = l .loop .last .key in
-    let here = k .line-at .result .key in
-    let end = k .line-at .result .end in
-    let read = k .line-at .ensures .0 in
-    let step = come-line tree lines last here (latest last here) (l .loop .from) end (read .ends) (read .key-is) refl in
-    let count = count-step (toCome tree lines last (l .loop .from)) (addedIn tree lines last here) (toCome tree lines (latest last here) (end + 1)) step in
-    record { fits = omega (arith, count, line .line-size .ensures .0, l .loop .inv .2, come-small tree lines (s .pre .1) .0, s .pre .2) }
-
-add-bytes : tie.Need-add-bytes Inv-loop μ-loop
-add-bytes c =
-    let line = c .before .before .before in
-    let k = line .before .before .before .before in
-    let l = k .before .before in
-    let s = l .before .before .before .before in
-    let tree = now (s .args .tree) in
-    let lines = now (s .args .lines) in
-    let last = l .loop .last .key in
-    let here = k .line-at .result .key in
-    let end = k .line-at .result .end in
-    let read = k .line-at .ensures .0 in
-    let step = come-line tree lines last here (latest last here) (l .loop .from) end (read .ends) (read .key-is) refl in
-    let bytes = bytes-step (toCome tree lines last (l .loop .from)) (addedIn tree lines last here) (toCome tree lines (latest last here) (end + 1)) step in
-    record { fits = omega (arith, bytes, line .line-size .ensures .1, l .loop .inv .3, come-small tree lines (s .pre .1) .1, s .pre .2) }
-
-add-from : tie.Need-add-from Inv-loop μ-loop
-add-from c =
-    let k = c .before .before .before .before .before .before .before .before in
+add-run-at : tie.Need-add-run-at Inv-loop μ-loop
+add-run-at c =
+    let k = c .before .before .before .before .before .before in
     let s = k .before .before .before .before .before .before in
     record { fits = omega (arith, k .line-at .ensures .0 .inside, s .pre .2) }
 
-loop-less : tie.Need-loop-less Inv-loop μ-loop
-loop-less c =
-    let k = c .before .before .before .before .before .before .before .before in
-    omega (arith, k .line-at .ensures .0 .begins, k .before .loop-test .taken)
+run-at-requires : tie.Need-run-at-requires Inv-loop μ-loop
+run-at-requires c κs =
+    let seen = c .before .before .before in
+    let s = seen .before .before .before .before .before .before .before .before .before in
+    (seen .after .ensures .1, s .pre .2)
 
-loop-again : tie.Need-loop-again Inv-loop μ-loop
-loop-again c =
-    let whole = c .before .before .before in
-    let line = whole .before in
-    let seen = line .before in
-    let no = seen .before in
-    let f = no .before in
-    let k = f .before in
+add-count : tie.Need-add-count Inv-loop μ-loop
+add-count c =
+    let run = c .before .before in
+    let line = run .before .before .before in
+    let k = line .before .before .before .before in
     let l = k .before .before in
     let s = l .before .before .before .before in
     let tree = now (s .args .tree) in
@@ -124,25 +90,117 @@ loop-again c =
     let here = k .line-at .result .key in
     let end = k .line-at .result .end in
     let read = k .line-at .ensures .0 in
-    let step = come-line tree lines last here (seen .after .result .key) (l .loop .from) end (read .ends) (read .key-is) (seen .after .ensures .0) in
+    let next = line .before .after .result .key in
+    let step = come-line tree lines last here next (l .loop .from) end (read .ends) (read .key-is) (line .before .after .ensures .0) in
     let all = toCome tree lines last (l .loop .from) in
     let mine = addedIn tree lines last here in
-    let rest = toCome tree lines (seen .after .result .key) (end + 1) in (
-      seen .after .ensures .1,
-      subst (λ key. Risen lines key (end + 1)) (sym (seen .after .ensures .0))
-          (risen-next lines last here (l .loop .from) end (l .loop .inv .1) (read .ends) (k .line-at .ensures .1 .inside) (read .key-is) (sym (f .falls .ensures) ∙ no .if1 .left)),
-      omega (arith, l .loop .inv .2, line .line-size .ensures .0, count-step all mine rest step),
-      omega (arith, l .loop .inv .3, line .line-size .ensures .1, bytes-step all mine rest step),
+    let rest = toCome tree lines next (end + 1) in
+    record { fits = omega (arith, count-step all mine rest step, line .line-size .ensures .0, run .run-at .ensures .counts, l .loop .inv .2, come-small tree lines (s .pre .1) .0, s .pre .2) }
+
+add-count-2 : tie.Need-add-count-2 Inv-loop μ-loop
+add-count-2 c =
+    let run = c .before .before in
+    let line = run .before .before .before in
+    let k = line .before .before .before .before in
+    let l = k .before .before in
+    let s = l .before .before .before .before in
+    let tree = now (s .args .tree) in
+    let lines = now (s .args .lines) in
+    let last = l .loop .last .key in
+    let here = k .line-at .result .key in
+    let end = k .line-at .result .end in
+    let read = k .line-at .ensures .0 in
+    let next = line .before .after .result .key in
+    let step = come-line tree lines last here next (l .loop .from) end (read .ends) (read .key-is) (line .before .after .ensures .0) in
+    let all = toCome tree lines last (l .loop .from) in
+    let mine = addedIn tree lines last here in
+    let rest = toCome tree lines next (end + 1) in
+    record { fits = omega (arith, count-step all mine rest step, line .line-size .ensures .0, run .run-at .ensures .counts, l .loop .inv .2, come-small tree lines (s .pre .1) .0, s .pre .2) }
+
+add-bytes : tie.Need-add-bytes Inv-loop μ-loop
+add-bytes c =
+    let run = c .before .before .before .before in
+    let line = run .before .before .before in
+    let k = line .before .before .before .before in
+    let l = k .before .before in
+    let s = l .before .before .before .before in
+    let tree = now (s .args .tree) in
+    let lines = now (s .args .lines) in
+    let last = l .loop .last .key in
+    let here = k .line-at .result .key in
+    let end = k .line-at .result .end in
+    let read = k .line-at .ensures .0 in
+    let next = line .before .after .result .key in
+    let step = come-line tree lines last here next (l .loop .from) end (read .ends) (read .key-is) (line .before .after .ensures .0) in
+    let all = toCome tree lines last (l .loop .from) in
+    let mine = addedIn tree lines last here in
+    let rest = toCome tree lines next (end + 1) in
+    record { fits = omega (arith, bytes-step all mine rest step, line .line-size .ensures .1, run .run-at .ensures .sizes, l .loop .inv .3, come-small tree lines (s .pre .1) .1, s .pre .2) }
+
+add-bytes-2 : tie.Need-add-bytes-2 Inv-loop μ-loop
+add-bytes-2 c =
+    let run = c .before .before .before .before in
+    let line = run .before .before .before in
+    let k = line .before .before .before .before in
+    let l = k .before .before in
+    let s = l .before .before .before .before in
+    let tree = now (s .args .tree) in
+    let lines = now (s .args .lines) in
+    let last = l .loop .last .key in
+    let here = k .line-at .result .key in
+    let end = k .line-at .result .end in
+    let read = k .line-at .ensures .0 in
+    let next = line .before .after .result .key in
+    let step = come-line tree lines last here next (l .loop .from) end (read .ends) (read .key-is) (line .before .after .ensures .0) in
+    let all = toCome tree lines last (l .loop .from) in
+    let mine = addedIn tree lines last here in
+    let rest = toCome tree lines next (end + 1) in
+    record { fits = omega (arith, bytes-step all mine rest step, line .line-size .ensures .1, run .run-at .ensures .sizes, l .loop .inv .3, come-small tree lines (s .pre .1) .1, s .pre .2) }
+
+loop-less : tie.Need-loop-less Inv-loop μ-loop
+loop-less c =
+    let run = c .before .before .before .before .before in
+    let k = run .before .before .before .before .before .before .before in
+    omega (arith, run .run-at .ensures .onward, k .line-at .ensures .0 .begins, k .before .loop-test .taken)
+
+loop-again : tie.Need-loop-again Inv-loop μ-loop
+loop-again c =
+    let run = c .before .before .before .before .before in
+    let line = run .before .before .before in
+    let k = line .before .before .before .before in
+    let l = k .before .before in
+    let s = l .before .before .before .before in
+    let tree = now (s .args .tree) in
+    let lines = now (s .args .lines) in
+    let last = l .loop .last .key in
+    let here = k .line-at .result .key in
+    let end = k .line-at .result .end in
+    let read = k .line-at .ensures .0 in
+    let next = line .before .after .result .key in
+    let step = come-line tree lines last here next (l .loop .from) end (read .ends) (read .key-is) (line .before .after .ensures .0) in
+    let all = toCome tree lines last (l .loop .from) in
+    let mine = addedIn tree lines last here in
+    let rest = toCome tree lines next (end + 1) in
+    let whole = run .before .before in
+    let seen = line .before in
+    let no = seen .before in
+    let pass = run .run-at .ensures in
+    let up = subst (λ key. Risen lines key (end + 1)) (sym (seen .after .ensures .0))
+    (risen-next lines last here (l .loop .from) end (l .loop .inv .1) (read .ends) (k .line-at .ensures .1 .inside) (read .key-is) (sym (no .before .falls .ensures) ∙ no .if1 .left)) in (
+      pass .knows,
+      pass .rises up,
+      omega (arith, l .loop .inv .2, line .line-size .ensures .0, count-step all mine rest step, pass .counts),
+      omega (arith, l .loop .inv .3, line .line-size .ensures .1, bytes-step all mine rest step, pass .sizes),
       λ e.
           let w = whole .stays-whole .ensures e in
           let before = l .loop .inv .4 (w .0) in
           let first = getD lines (l .loop .from) 0 in (
-            plain-next lines (l .loop .from) end (read .ends) (before .0) (λ n. read .plain-at (w .1 n .0)),
+            pass .plain (plain-next lines (l .loop .from) end (read .ends) (before .0) (λ n. read .plain-at (w .1 n .0))),
             elim (whether (eqb first 35)) [
-              | inl t ↦ omega (arith, before .1, ap length (note-keys lines (l .loop .from) end (k .before .loop-test .taken) (eqb-true first 35 t) (read .ends)))
+              | inl t ↦ omega (arith, before .1, pass .keys, ap length (note-keys lines (l .loop .from) end (k .before .loop-test .taken) (eqb-true first 35 t) (read .ends)))
               | inr t ↦
                   let adds = w .1 (eqb-false first 35 t) in
-                  omega (arith, before .1, adds .1, plain-count lines (l .loop .from) (read .plain-at (adds .0)) end (read .ends))
+                  omega (arith, before .1, adds .1, pass .keys, plain-count lines (l .loop .from) (read .plain-at (adds .0)) end (read .ends))
             ],
           ),
     )
@@ -179,4 +237,4 @@ returns-2 c =
 pub measure-spec : {M : Type 1} → statement M
 measure-spec =
     tie.close
-    (tie.spec Inv-loop μ-loop loop-holds line-at-requires falls-requires returns after-requires line-size-requires (λ c κs. search needs) add-count add-bytes add-from loop-less loop-again returns-2)
+    (tie.spec Inv-loop μ-loop loop-holds line-at-requires falls-requires returns after-requires line-size-requires (λ c κs. search needs) add-run-at run-at-requires add-count add-count-2 add-bytes add-bytes-2 loop-less loop-again returns-2)

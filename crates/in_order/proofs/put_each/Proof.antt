@@ -10,7 +10,7 @@ use Rattle.in_order.specs.InOrder.{addedIn, latest}
 use Rattle.in_order.specs.KeyLines.{keyLines}
 use Rattle.in_order.specs.Paths.{Knows, knows-start}
 use Rattle.in_order.specs.StaleKeys.{staleIn}
-use Rattle.in_order.proofs.Passing.{bytes-step, come-all, come-end, come-line, none-bytes, put-end, put-step, toCome, written-length}
+use Rattle.in_order.specs.Passing.{bytes-step, come-all, come-end, come-line, none-bytes, put-end, put-step, toCome, written-length}
 use Rattle.in_order.proofs.put_each.Statement.{statement}
 use Rattle.in_order.proofs.put_each.Tie as tie
 

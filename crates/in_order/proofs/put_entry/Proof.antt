@@ -10,7 +10,7 @@ use Rattle.text_rules.specs.Search.{part}
 use Rattle.baseline.specs.Ordered.{oneKey}
 use Rattle.in_order.specs.KeyLines.{keyLines}
 use Rattle.in_order.specs.Whole.{keysAt, lineEnd, secondTab}
-use Rattle.in_order.proofs.Passing.{written-none, written-same}
+use Rattle.in_order.specs.Passing.{written-none, written-same}
 use Rattle.in_order.proofs.Wholes.{note-key, plain-key, plain-size, rest-ends, second-tab}
 use Rattle.in_order.proofs.put_entry.Statement.{statement}
 use Rattle.in_order.proofs.put_entry.Tie as tie

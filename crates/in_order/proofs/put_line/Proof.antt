@@ -10,7 +10,7 @@ use Rattle.baseline.specs.Reads.{KeyInside}
 use Rattle.in_order.specs.InOrder.{latest}
 use Rattle.in_order.specs.KeyLines.{Written, keyLines}
 use Rattle.in_order.specs.Paths.{part-length}
-use Rattle.in_order.proofs.Passing.{adds-key, adds-none, adds-nothing, sizes-one, written-none}
+use Rattle.in_order.specs.Passing.{adds-key, adds-none, adds-nothing, sizes-one, written-none}
 use Rattle.in_order.proofs.put_line.Statement.{statement}
 use Rattle.in_order.proofs.put_line.Tie as tie
 

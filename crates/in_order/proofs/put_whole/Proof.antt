@@ -10,7 +10,7 @@ use Rattle.text_rules.specs.Bytes.{putAt}
 use Rattle.baseline.specs.Ordered.{keys-end, keysIn}
 use Rattle.in_order.specs.KeyLines.{Written, keyLines}
 use Rattle.in_order.specs.Whole.{Begins, keysAt, lineEnd}
-use Rattle.in_order.proofs.Passing.{bytes-step, none-bytes, put-end, put-step, written-length}
+use Rattle.in_order.specs.Passing.{bytes-step, none-bytes, put-end, put-step, written-length}
 use Rattle.in_order.proofs.Wholes.{line-keys, next-begins}
 use Rattle.in_order.proofs.put_whole.Statement.{statement}
 use Rattle.in_order.proofs.put_whole.Tie as tie

@@ -1,4 +1,4 @@
--- `in_order::alike` meets its contract: while the bytes before the i-th are the same, the flag holds.
+-- `prefix::alike` meets its contract: while the bytes before the i-th are the same, the flag holds.
 use Prim.Native.Nat.{ℕ, _+_, _-_, _≤_}
 use mathlib.Core.Path.{_≡_, ap, sym, _∙_}
 use mathlib.Core.Logic.{⊎-elim}
@@ -7,9 +7,9 @@ use native.Mathlib.Omega.{arith}
 use lib.ListN.{drop}
 use denote.Ref.{now}
 use borrow.Author.Needs.{needs}
-use Rattle.in_order.specs.Common.{common, common-next}
-use Rattle.in_order.proofs.alike.Statement.{statement}
-use Rattle.in_order.proofs.alike.Tie as tie
+use Rattle.prefix.specs.Common.{common, common-next}
+use Rattle.prefix.proofs.alike.Statement.{statement}
+use Rattle.prefix.proofs.alike.Tie as tie
 
 abbrev Inv-loop : tie.InvT-loop
 Inv-loop s t at n all₀ i₀ all i = (i ≤ n) × (all ≡ true → common (drop at s) (drop at t) ≡ i + common (drop (at + i) s) (drop (at + i) t))

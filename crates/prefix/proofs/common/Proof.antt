@@ -1,13 +1,13 @@
--- `in_order::common` meets its contract: what the texts have in common is what they have up to a place, and what they have from there on.
+-- `prefix::common` meets its contract: what the texts have in common is what they have up to a place, and what they have from there on.
 use Prim.Native.Nat.{_+_, _-_, _≤_, min}
 use mathlib.Core.Path.{_≡_}
 use native.Mathlib.Omega.{arith}
 use lib.ListN.{length, drop}
 use denote.Ref.{now}
 use borrow.Author.Needs.{needs}
-use Rattle.in_order.specs.Common.{common, common-end, common-more, common-stop}
-use Rattle.in_order.proofs.common.Statement.{statement}
-use Rattle.in_order.proofs.common.Tie as tie
+use Rattle.prefix.specs.Common.{common, common-end, common-more, common-stop}
+use Rattle.prefix.proofs.common.Statement.{statement}
+use Rattle.prefix.proofs.common.Tie as tie
 
 abbrev Inv-loop : tie.InvT-loop
 Inv-loop s t most i₀ i = (most ≡ min (length s) (length t)) × (i ≤ most) × (i + common (drop i s) (drop i t) ≡ common s t)

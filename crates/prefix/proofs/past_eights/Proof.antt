@@ -1,13 +1,13 @@
--- `in_order::past_eights` meets its contract: what the texts have in common is what was passed, and what they have from there on.
+-- `prefix::past_eights` meets its contract: what the texts have in common is what was passed, and what they have from there on.
 use Prim.Native.Nat.{_+_, _-_, _≤_}
 use mathlib.Core.Path.{_≡_}
 use native.Mathlib.Omega.{arith}
 use lib.ListN.{drop}
 use borrow.Author.Needs.{needs}
 use borrow.Author.Tests.{not-false}
-use Rattle.in_order.specs.Common.{common}
-use Rattle.in_order.proofs.past_eights.Statement.{statement}
-use Rattle.in_order.proofs.past_eights.Tie as tie
+use Rattle.prefix.specs.Common.{common}
+use Rattle.prefix.proofs.past_eights.Statement.{statement}
+use Rattle.prefix.proofs.past_eights.Tie as tie
 
 abbrev Inv-loop : tie.InvT-loop
 Inv-loop s t most at₀ at = (at ≤ most) × (at + common (drop at s) (drop at t) ≡ common s t)

@@ -1,5 +1,5 @@
--- How many bytes two texts have in common from their starts on. Of a line and the last key that tells how the line's key stands to the last one, and
--- whether it has the same path.
+-- How many bytes two texts have in common from their starts on. Of a line and a key that tells how the line's beginning stands to the key, and whether it
+-- has the same path: what stands before the first tab.
 use Prim.Native.Nat.{ℕ, zero, suc, _+_, _≤_, _<_, min}
 use mathlib.Core.Path.{_≡_, refl, ap, ap₂, sym, _∙_}
 use mathlib.Core.Logic.{_⊎_, inl, inr}
@@ -15,14 +15,13 @@ use Rattle.text_rules.specs.BytesLaws.{whether}
 use Rattle.text_rules.specs.Classes.{tab}
 use Rattle.text_rules.specs.ScanLaws.{split}
 use Rattle.text_rules.specs.Search.{bytesBefore, run}
-use Rattle.live.specs.Live.{pathOf}
 
 unfoldable pub common : List ℕ → List ℕ → ℕ
 common [] t = 0
 common (x ∷ l) [] = 0
 common (x ∷ l) (y ∷ t) = if eqb x y then suc (common l t) else 0
 
--- with the last key, where there is one
+-- with a key, where there is one
 abbrev pub commonWith : Option (List ℕ) → List ℕ → ℕ
 commonWith none t = 0
 commonWith (some l) t = common l t
@@ -214,8 +213,12 @@ later : (x b : ℕ) (l : List ℕ) → eqb b x ≡ false → bytesBefore x (b �
 unfolding run
 later x b l e = rw (e, run)
 
+-- what stands before the first tab
+abbrev front : List ℕ → List ℕ
+front l = take (bytesBefore tab l) l
+
 -- texts that have the path and the tab of l in common have the path
-pub common-path : (l t : List ℕ) (c : ℕ) → bytesBefore tab l < common l t → bytesBefore tab l < c → (bytesBefore tab (take c t) ≡ bytesBefore tab l) × (pathOf (take c t) ≡ pathOf l)
+pub common-path : (l t : List ℕ) (c : ℕ) → bytesBefore tab l < common l t → bytesBefore tab l < c → (bytesBefore tab (take c t) ≡ bytesBefore tab l) × (front (take c t) ≡ front l)
 unfolding common
 common-path l t zero h k = absurd (omega arith)
 common-path [] t (suc c) h k = absurd (omega arith)

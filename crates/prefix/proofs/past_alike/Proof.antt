@@ -1,11 +1,11 @@
--- `in_order::past_alike` meets its contract: four bytes more that are the same are passed, or none.
+-- `prefix::past_alike` meets its contract: four bytes more that are the same are passed, or none.
 use Prim.Native.Nat.{_+_, _≤_}
 use mathlib.Core.Path.{_≡_}
 use native.Mathlib.Omega.{arith}
 use borrow.Author.Needs.{needs}
 use borrow.Author.Tests.{not-false}
-use Rattle.in_order.proofs.past_alike.Statement.{statement}
-use Rattle.in_order.proofs.past_alike.Tie as tie
+use Rattle.prefix.proofs.past_alike.Statement.{statement}
+use Rattle.prefix.proofs.past_alike.Tie as tie
 
 alike-requires : tie.Need-alike-requires
 alike-requires c κs = let p = c .before .before .before .before .pre in (omega (arith, p), omega (arith, p))
