@@ -1,0 +1,10 @@
+-- `regressions::more_branches` meets its contract: the cyclomatic number is above the one accepted.
+use mathlib.Core.Path.{refl}
+use Rattle.regressions.proofs.more_branches.Statement.{statement}
+use Rattle.regressions.proofs.more_branches.Tie as tie
+
+returns : tie.Need-returns
+returns c = refl
+
+pub more-branches-spec : {M : Type 1} → statement M
+more-branches-spec = tie.close (tie.spec returns)
