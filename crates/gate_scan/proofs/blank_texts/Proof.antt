@@ -66,7 +66,7 @@ blank-part-requires c κs =
     let ts = c .before in
     let l = ts .before .before in
     let s = l .before .before .before .before in
-    (ts .text-span .ensures .2, ts .text-span .ensures .3, omega (arith, s .pre .1, l .loop .inv .1))
+    (omega (arith, ts .text-span .ensures .2), ts .text-span .ensures .3, omega (arith, s .pre .1, l .loop .inv .1))
 
 loop-again : tie.Need-loop-again Inv-loop μ-loop
 loop-again c =
