@@ -5,22 +5,12 @@ use mathlib.Core.Logic.{inl, inr}
 use mathlib.Core.Bool.{Bool, true, false}
 use mathlib.Core.List.{List, [], _∷_, _++_}
 use mathlib.Core.Option.{Option, none, some}
-use Rattle.text_rules.specs.ByteOrder.{before-orders}
+use Rattle.text_rules.specs.ByteOrder.{before-asym}
 use Rattle.text_rules.specs.Bytes.{All, before, kept}
 use Rattle.text_rules.specs.BytesLaws.{All-in, All-map, whether}
 use Rattle.text_rules.specs.Selection.{Rising}
 use Rattle.order.specs.Best.{After, first-not, lastOf, rest-after}
 use Rattle.in_order.specs.StaleKeys.{behind}
-
-before-asym : (s t : List ℕ) → before s t ≡ true → before t s ≡ true → ⊥
-before-asym = before-orders .asym
-
-pub before-trans : (r s t : List ℕ) → before r s ≡ true → before s t ≡ true → before r t ≡ true
-before-trans r s t h k =
-    elim (before-orders .splits r t s h) [
-      | inl e ↦ e
-      | inr e ↦ absurd (before-orders .asym s t k e)
-    ]
 
 module _ (test : List ℕ → Bool) where
   kept-all : (P : List ℕ → Type 0) (ks : List (List ℕ)) → All P ks → All P (kept test ks)

@@ -8,11 +8,10 @@ use native.Mathlib.Numerals.{add-one}
 use native.Mathlib.Omega.{arith}
 use lib.ListN.{length, take, drop, getD, set}
 use lib.Seq.{take-all, take-take}
-use Rattle.text_rules.specs.ByteOrder.{before-orders, before-total}
+use Rattle.text_rules.specs.ByteOrder.{before-itself, before-total, before-trans}
 use Rattle.text_rules.specs.Bytes.{All, _∈_, if_then_else_, before, same}
 use Rattle.text_rules.specs.BytesLaws.{All-at, All-map, same-refl, same-true, true-false, whether}
 use Rattle.text_rules.specs.Selection.{Rising}
-use Rattle.batches.specs.Behind.{before-trans}
 
 -- the key at its place, where it does not stand there yet
 unfoldable pub insert : List ℕ → List (List ℕ) → List (List ℕ)
@@ -44,9 +43,6 @@ module _ {A : Type 0} where
   insert-front xs (suc m) zero x h k = absurd (omega arith)
   insert-front [] (suc m) (suc at) x h k = absurd (omega arith)
   insert-front (y ∷ xs) (suc m) (suc at) x h k = ap (λ ys. y ∷ ys) (insert-front xs m at x (omega arith) (omega arith))
-
-irreflexive : (k : List ℕ) → before k k ≡ false
-irreflexive k = elim (whether (before k k)) [ inl e ↦ absurd (before-orders .asym k k e e) | inr e ↦ e ]
 
 other : (j k : List ℕ) → before j k ≡ false → same j k ≡ false → before k j ≡ true
 other j k e d =
@@ -116,7 +112,7 @@ module _ (k : List ℕ) where
   unfolding insert
   insert-in (j ∷ js) r m =
       elim (List·Memᴰ·cases-cons m) [
-        | inl q ↦ rw (ap (λ x. before x k) (sym q) ∙ irreflexive k, ap (λ x. same x k) (sym q) ∙ same-refl k)
+        | inl q ↦ rw (ap (λ x. before x k) (sym q) ∙ before-itself k, ap (λ x. same x k) (sym q) ∙ same-refl k)
         | inr n ↦ rw (All-at (λ i. before j i ≡ true) js (r .0) n) (ap (λ is. j ∷ is) (insert-in js (r .1) n))
       ]
 

@@ -15,6 +15,7 @@ use Rattle.text_rules.specs.Bytes.{if_then_else_, same}
 use Rattle.text_rules.specs.BytesLaws.{whether}
 use Rattle.text_rules.specs.Search.{bytesBefore, part}
 use Rattle.gate_rules.specs.Baseline.{Entry, entriesOfLines, entryKey, entryOf, laterOf, lookup}
+use Rattle.gate_rules.specs.BaselineLaws.{later-assoc, later-none}
 use Rattle.gate_rules.specs.Functions.{Fun, key}
 use Rattle.functions.specs.Shown.{noFun}
 use Rattle.baseline.specs.Reads.{hit, keyOfEntry, lineAt}
@@ -91,21 +92,12 @@ marks-none place fs old = record { same-length = refl; each = λ i h. refl }
 
 -- ---- the lines
 
--- of several lines the last one wins
-later-last : (a b c : Option Entry) → laterOf a (laterOf b c) ≡ laterOf (laterOf a b) c
-later-last a b none = refl
-later-last a b (some e) = refl
-
-later-none : (a : Option Entry) → a ≡ laterOf none a
-later-none none = refl
-later-none (some e) = refl
-
 -- what is found in some lines and one more
 one-more : (k : List ℕ) (seen : List Entry) (o : Option Entry) → lookup k (seen ++ entryList o) ≡ laterOf (lookup k seen) (hit k o)
 unfolding lookup
 one-more k [] none = refl
-one-more k [] (some e) = later-none (hit k (some e))
-one-more k (x ∷ seen) o = ap (laterOf (hit k (some x))) (one-more k seen o) ∙ later-last (hit k (some x)) (lookup k seen) (hit k o)
+one-more k [] (some e) = sym (later-none (hit k (some e)))
+one-more k (x ∷ seen) o = ap (laterOf (hit k (some x))) (one-more k seen o) ∙ later-assoc (hit k (some x)) (lookup k seen) (hit k o)
 
 module _ (s : List ℕ) (fs : List Fun) where
   -- the place of each function, by the lines in front of one

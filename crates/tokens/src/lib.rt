@@ -2,7 +2,7 @@
 // A `Cursor` is such a place, by value; each step takes one and hands back the next. The byte here says which rules may fit, so that one that begins
 // no token is looked at once.
 ghost use mathlib.Core.Path.{_≡_};
-ghost use mathlib.Core.Bool.{_&&_, true, false};
+ghost use mathlib.Core.Bool.{_&&_, false};
 ghost use mathlib.Core.List.{_∷_};
 ghost use Prim.Native.Nat.{_+_, _≤_, _<_, min};
 ghost use lib.Dec.{eqb};
