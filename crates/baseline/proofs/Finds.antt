@@ -16,6 +16,7 @@ use Rattle.text_rules.specs.LineForms.{line-last, line-next, part-joined}
 use Rattle.text_rules.specs.Lines.{ended, fields, linesIn, split, withoutCR}
 use Rattle.text_rules.specs.Search.{bytesBefore, part}
 use Rattle.gate_rules.specs.Baseline.{Entry, entriesOfLines, entryOf, entryOfFields, laterOf, lookup}
+use Rattle.gate_rules.specs.BaselineLaws.{later-none}
 use Rattle.gate_rules.specs.Functions.{isComment, keyOf}
 use Rattle.baseline.specs.Reads.{Inside, KeyFrom, PathEnds, acceptedBy, entryIn, hit, keyOfEntry, later, lineAt}
 use Rattle.baseline.specs.Steps.{entries-end, entries-next, entryList}
@@ -78,13 +79,9 @@ module _ (s : List ℕ) (from to : ℕ) (h : to ≤ length s) (r : Line) (inside
   key-none e = ap keyOfEntry (ap (entryIn (part from to s)) (sym e) ∙ is)
 
 -- the first line of several, then the others
-later-none : (a : Option Entry) → a ≡ laterOf none a
-later-none none = refl
-later-none (some e) = refl
-
 first-find : (k : List ℕ) (o : Option Entry) (es : List Entry) → lookup k (entryList o ++ es) ≡ laterOf (hit k o) (lookup k es)
 unfolding lookup
-first-find k none es = later-none (lookup k es)
+first-find k none es = sym (later-none (lookup k es))
 first-find k (some e) es = refl
 
 none-past : (k s : List ℕ) (at : ℕ) → length s ≤ at → lookup k (entriesOfLines (drop at s)) ≡ none

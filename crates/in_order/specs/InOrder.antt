@@ -6,7 +6,7 @@ use mathlib.Core.Bool.{Bool, true, false, _||_}
 use mathlib.Core.List.{List, [], _∷_, _++_, map, List·Memᴰ·head, List·Memᴰ·tail, List·Memᴰ·cases-cons, List·Memᴰ·not-nil}
 use mathlib.Core.Option.{Option, none, some}
 use native.Mathlib.Omega.{arith}
-use Rattle.text_rules.specs.ByteOrder.{before-orders, before-total}
+use Rattle.text_rules.specs.ByteOrder.{before-asym, before-orders, before-total}
 use Rattle.text_rules.specs.Bytes.{All, _∈_, among, before, if_then_else_, same, total}
 use Rattle.text_rules.specs.BytesLaws.{All-at, All-map, same-refl, same-true, some-same, total-append, true-false, whether}
 use Rattle.text_rules.specs.Selection.{Rising}
@@ -155,13 +155,10 @@ module _ (live : List (List ℕ)) where
       ]
 
 -- two lists that rise and have the same elements are the same
-irreflexive : (k : List ℕ) → before k k ≡ true → ⊥
-irreflexive k e = before-orders .asym k k e e
-
 other : (x : List ℕ) (xs ys : List (List ℕ)) → All (λ j. before x j ≡ true) xs → ((k : List ℕ) → k ∈ x ∷ xs → k ∈ x ∷ ys) → (k : List ℕ) → k ∈ xs → k ∈ ys
 other x xs ys a h k m =
     elim (List·Memᴰ·cases-cons (h k (List·Memᴰ·tail m))) [
-      | inl q ↦ absurd (irreflexive x (ap (before x) (sym q) ∙ All-at _ xs a m))
+      | inl q ↦ absurd (let e = ap (before x) (sym q) ∙ All-at _ xs a m in before-asym x x e e)
       | inr n ↦ n
     ]
 
@@ -175,7 +172,7 @@ rising-same (x ∷ xs) (y ∷ ys) r s h g =
       | inl e ↦ e
       | inr m ↦ elim (List·Memᴰ·cases-cons (g y (List·Memᴰ·head refl))) [
         | inl e ↦ sym e
-        | inr n ↦ absurd (before-orders .asym x y (All-at _ xs (r .0) n) (All-at _ ys (s .0) m))
+        | inr n ↦ absurd (before-asym x y (All-at _ xs (r .0) n) (All-at _ ys (s .0) m))
       ]
     ] in
     let h′ : (k : List ℕ) → k ∈ x ∷ xs → k ∈ x ∷ ys = subst (λ z. (k : List ℕ) → k ∈ x ∷ xs → k ∈ z ∷ ys) (sym q) h in
