@@ -3,7 +3,6 @@
 // number of times.
 use answers::Answer;
 use tokens::APOSTROPHE;
-use tokens::Cursor;
 use tokens::HASH;
 use tokens::LF;
 use tokens::QUOTE;
@@ -32,32 +31,38 @@ fn blank_byte(b: u8) -> u8
     if b == LF { LF } else { SPACE }
 }
 
-// Writes a token, which goes on from here to `end`.
-fn fill(here: Cursor, text: &[u8], output: &mut [u8], end: Cursor) -> Cursor
-    requires { ⌜ (here .at ≤ end .at) × (end .at ≤ length (now text)) × (length (now text) ≤ length (now output)) ⌝ }
-    ensures { λ r. ⌜ (r .at ≡ end .at) × (finished (now (text .entry)) (now (output .exit)) (end .at) (end .at) ≡ finished (now (text .entry)) (now (output .entry)) (here .at) (end .at)) ⌝ }
-{
-    let mut at = here.at;
-    let to = end.at;
-    while at < to {
-        output[at] = blank_byte(text[at]);
-        at += 1;
-    }
-    Cursor { at }
+// A place in a text up to which the output is written.
+struct Cursor {
+    at: usize,
 }
 
-// Writes the token that opens here, or else the byte here, and goes past it.
-fn step(here: Cursor, text: &[u8], output: &mut [u8]) -> Cursor
-    requires { ⌜ (here .at < length (now text)) × (length (now text) ≤ length (now output)) ⌝ }
-    ensures { λ r. ⌜ (here .at < r .at) × (r .at ≤ length (now (text .entry))) × (finished (now (text .entry)) (now (output .exit)) (r .at) (r .at) ≡ finished (now (text .entry)) (now (output .entry)) (here .at) (here .at)) ⌝ }
-{
-    let at = here.at;
-    let end = here.token(text);
-    if at < end.at {
-        return fill(here, text, output, end);
+impl Cursor {
+    // Writes a token, which goes on from here to `end`.
+    fn fill(self, text: &[u8], output: &mut [u8], end: usize) -> Cursor
+        requires { ⌜ (self .at ≤ end) × (end ≤ length (now text)) × (length (now text) ≤ length (now output)) ⌝ }
+        ensures { λ r. ⌜ (r .at ≡ end) × (finished (now (text .entry)) (now (output .exit)) end end ≡ finished (now (text .entry)) (now (output .entry)) (self .at) end) ⌝ }
+    {
+        let mut at = self.at;
+        while at < end {
+            output[at] = blank_byte(text[at]);
+            at += 1;
+        }
+        Cursor { at }
     }
-    output[at] = text[at];
-    Cursor { at: at + 1 }
+
+    // Writes the token that opens here, or else the byte here, and goes past it.
+    fn step(self, text: &[u8], output: &mut [u8]) -> Cursor
+        requires { ⌜ (self .at < length (now text)) × (length (now text) ≤ length (now output)) ⌝ }
+        ensures { λ r. ⌜ (self .at < r .at) × (r .at ≤ length (now (text .entry))) × (finished (now (text .entry)) (now (output .exit)) (r .at) (r .at) ≡ finished (now (text .entry)) (now (output .entry)) (self .at) (self .at)) ⌝ }
+    {
+        let at = self.at;
+        let token = tokens::Cursor { at }.token(text);
+        if at < token.at {
+            return self.fill(text, output, token.at);
+        }
+        output[at] = text[at];
+        Cursor { at: at + 1 }
+    }
 }
 
 // Whether the block at a place has none of the bytes by which a token is told.
@@ -116,28 +121,30 @@ fn copy(text: &[u8], output: &mut [u8], from: usize, to: usize)
     }
 }
 
-// Writes token by token and byte by byte to `end`, or past it.
-fn steps(from: Cursor, text: &[u8], output: &mut [u8], end: usize) -> Cursor
-    requires { ⌜ (from .at ≤ end) × (end ≤ length (now text)) × (length (now text) ≤ length (now output)) ⌝ }
-    ensures { λ r. ⌜ (end ≤ r .at) × (r .at ≤ length (now (text .entry))) × (finished (now (text .entry)) (now (output .exit)) (r .at) (r .at) ≡ finished (now (text .entry)) (now (output .entry)) (from .at) (from .at)) ⌝ }
-{
-    let mut here = from;
-    while here.at < end {
-        here = step(here, text, output);
+impl Cursor {
+    // Writes token by token and byte by byte from here to `end`, or past it.
+    fn steps(self, text: &[u8], output: &mut [u8], end: usize) -> Cursor
+        requires { ⌜ (self .at ≤ end) × (end ≤ length (now text)) × (length (now text) ≤ length (now output)) ⌝ }
+        ensures { λ r. ⌜ (end ≤ r .at) × (r .at ≤ length (now (text .entry))) × (finished (now (text .entry)) (now (output .exit)) (r .at) (r .at) ≡ finished (now (text .entry)) (now (output .entry)) (self .at) (self .at)) ⌝ }
+    {
+        let mut here = self;
+        while here.at < end {
+            here = here.step(text, output);
+        }
+        here
     }
-    here
-}
 
-// Writes the plain bytes here, and then some bytes by steps.
-fn pass(here: Cursor, text: &[u8], output: &mut [u8]) -> Cursor
-    requires { ⌜ (here .at < length (now text)) × (length (now text) ≤ length (now output)) ⌝ }
-    ensures { λ r. ⌜ (here .at < r .at) × (r .at ≤ length (now (text .entry))) × (finished (now (text .entry)) (now (output .exit)) (r .at) (r .at) ≡ finished (now (text .entry)) (now (output .entry)) (here .at) (here .at)) ⌝ }
-{
-    let at = here.at;
-    let to = plain_end(text, at);
-    copy(text, output, at, to);
-    let end = to + tokens::least(STRETCH, text.len() - to);
-    steps(Cursor { at: to }, text, output, end)
+    // Writes the plain bytes here, and then some bytes by steps.
+    fn pass(self, text: &[u8], output: &mut [u8]) -> Cursor
+        requires { ⌜ (self .at < length (now text)) × (length (now text) ≤ length (now output)) ⌝ }
+        ensures { λ r. ⌜ (self .at < r .at) × (r .at ≤ length (now (text .entry))) × (finished (now (text .entry)) (now (output .exit)) (r .at) (r .at) ≡ finished (now (text .entry)) (now (output .entry)) (self .at) (self .at)) ⌝ }
+    {
+        let at = self.at;
+        let to = plain_end(text, at);
+        copy(text, output, at, to);
+        let end = to + tokens::least(STRETCH, text.len() - to);
+        Cursor { at: to }.steps(text, output, end)
+    }
 }
 
 // The blanked text, in the place of the output's first bytes.
@@ -147,7 +154,7 @@ fn blank_all(text: &[u8], output: &mut [u8])
 {
     let mut here = Cursor { at: 0 };
     while here.at < text.len() {
-        here = pass(here, text, output);
+        here = here.pass(text, output);
     }
 }
 

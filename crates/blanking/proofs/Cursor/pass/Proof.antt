@@ -1,10 +1,10 @@
--- `blanking::pass` meets its contract: what is copied and what the steps write leave the finished output the same. It goes on, since either
+-- `blanking::Cursor::pass` meets its contract: what is copied and what the steps write leave the finished output the same. It goes on, since either
 -- bytes are copied or a byte is left for a step.
 use mathlib.Core.Path.{_∙_}
 use native.Mathlib.Omega.{arith}
 use borrow.Author.Needs.{needs}
-use Rattle.blanking.proofs.pass.Statement.{statement}
-use Rattle.blanking.proofs.pass.Tie as tie
+use Rattle.blanking.proofs.Cursor.pass.Statement.{statement}
+use Rattle.blanking.proofs.Cursor.pass.Tie as tie
 
 returns : tie.Need-returns
 returns c = let t = c .before .before in

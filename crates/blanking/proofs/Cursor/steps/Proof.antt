@@ -1,12 +1,12 @@
--- `blanking::steps` meets its contract: each step leaves the finished output the same.
+-- `blanking::Cursor::steps` meets its contract: each step leaves the finished output the same.
 use Prim.Native.Nat.{_-_, _≤_}
 use mathlib.Core.Path.{_∙_, _≡_, refl}
 use native.Mathlib.Omega.{arith}
 use borrow.Author.Needs.{needs}
 use lib.ListN.{length}
 use Rattle.blanking.specs.Contracts.{finished}
-use Rattle.blanking.proofs.steps.Statement.{statement}
-use Rattle.blanking.proofs.steps.Tie as tie
+use Rattle.blanking.proofs.Cursor.steps.Statement.{statement}
+use Rattle.blanking.proofs.Cursor.steps.Tie as tie
 
 abbrev Inv-loop : tie.InvT-loop
 Inv-loop text output₀ end here₀ output here = (here .at ≤ length text) × (length output ≡ length output₀) × (finished text output (here .at) (here .at) ≡ finished text output₀ (here₀ .at) (here₀ .at))

@@ -1,4 +1,4 @@
--- `blanking::fill` meets its contract: each byte that it writes leaves the finished output the same.
+-- `blanking::Cursor::fill` meets its contract: each byte that it writes leaves the finished output the same.
 use Prim.Native.Nat.{_+_, _-_, _≤_, ℕ}
 use mathlib.Core.Path.{_∙_, _≡_, ap, refl}
 use native.Mathlib.Omega.{arith}
@@ -6,14 +6,14 @@ use borrow.Author.Needs.{needs}
 use lib.ListN.{length, length-set, set}
 use Rattle.blanking.specs.Contracts.{finished}
 use Rattle.blanking.proofs.Whole.{filled}
-use Rattle.blanking.proofs.fill.Statement.{statement}
-use Rattle.blanking.proofs.fill.Tie as tie
+use Rattle.blanking.proofs.Cursor.fill.Statement.{statement}
+use Rattle.blanking.proofs.Cursor.fill.Tie as tie
 
 abbrev Inv-loop : tie.InvT-loop
-Inv-loop text output₀ at₀ to output at = (at ≤ to) × (length output ≡ length output₀) × (finished text output at to ≡ finished text output₀ at₀ to)
+Inv-loop text output₀ end at₀ output at = (at ≤ end) × (length output ≡ length output₀) × (finished text output at end ≡ finished text output₀ at₀ end)
 
 abbrev μ-loop : tie.MeasureT-loop
-μ-loop text output₀ at₀ to output at = to - at
+μ-loop text output₀ end at₀ output at = end - at
 
 loop-holds : tie.Need-loop-holds Inv-loop μ-loop
 loop-holds c = (omega arith, refl, refl)
@@ -22,7 +22,7 @@ loop-again : tie.Need-loop-again Inv-loop μ-loop
 loop-again c = let l = c .before .before .before in
     let a = l .before .before .before .args in
     let s = a .text .now in
-    let e = a .end .at in
+    let e = a .end in
     let i = l .loop .at in (
       omega arith,
       length-set (l .loop .output) i (c .blank-byte .result) ∙ l .loop .inv .1,
@@ -32,8 +32,8 @@ loop-again c = let l = c .before .before .before in
 returns : tie.Need-returns Inv-loop μ-loop
 returns c = let l = c .before in
     let a = l .before .before .before .args in
-    let e : a .end .at ≡ l .loop .at = omega arith in
-    (omega arith, ap (λ (k : ℕ). finished (a .text .now) (l .loop .output) k (a .end .at)) e ∙ l .loop .inv .2)
+    let e : a .end ≡ l .loop .at = omega arith in
+    (omega arith, ap (λ (k : ℕ). finished (a .text .now) (l .loop .output) k (a .end)) e ∙ l .loop .inv .2)
 
 pub fill-spec : {M : Type 1} → statement M
 fill-spec =
