@@ -1,0 +1,3 @@
+-- What is kept of searches for a body.
+pub mod Memo
+pub mod Moving
