@@ -169,7 +169,8 @@ fn sums_after(b: u8, c: Chunk) -> Chunk
     }
 }
 
-fn body_sum(s: &[u8], from: usize, to: usize) -> Chunk
+// What the bytes from one place to another do to a search for a body, at most as many as a chunk has.
+pub fn body_sum(s: &[u8], from: usize, to: usize) -> Chunk
     requires { ⌜ (from ≤ to) × (to ≤ length (now s)) × (to ≤ from + 4096) ⌝ }
     ensures { λ r. ⌜
         PassesBody (now (s .entry)) from to r
@@ -369,7 +370,7 @@ pub enum BodyPast {
 }
 
 // Whether a search with these counts does not end in a chunk.
-fn misses(c: Chunk, n: Counts) -> bool
+pub fn misses(c: Chunk, n: Counts) -> bool
     requires { ⌜
         (c .low ≤ 65535)
         × (c .high ≤ 65535)
@@ -387,7 +388,7 @@ fn misses(c: Chunk, n: Counts) -> bool
 }
 
 // What a search has counted behind a chunk.
-fn counts_past(c: Chunk, n: Counts) -> Counts
+pub fn counts_past(c: Chunk, n: Counts) -> Counts
     requires { ⌜ (c .ups ≤ 4096) × (c .opened ≤ 4096) × (c .closed ≤ 4096) × Counted n 9223372036854775807 ⌝ }
     ensures { λ r. ⌜ r ≡ countsPast c n ⌝ }
 {

@@ -1,6 +1,7 @@
 // What the last long searches for a body found, each kept by what it has counted at one place of the text. A search that comes to that place at the same
 // depths finds the same, and is not made again.
 use chunks::BodyPast;
+use chunks::Chunk;
 use flat::Counts;
 use flat::Reached;
 ghost use mathlib.Core.Path.{_≡_};
@@ -10,11 +11,11 @@ ghost use Prim.Native.Nat.{ℕ, _+_, _≤_, _<_};
 ghost use lib.ListN.{length, getD};
 ghost use Rattle.flat.specs.Body.{Counted, Reaches, bodyFrom};
 ghost use Rattle.chunks.specs.Table.{Summed};
-ghost use Rattle.memo.specs.Memo.{Entry, Keeps, Meets, Moves, Recalls, Tells, TellsPast, countsAt, Forgotten, numberAt, setEntry};
+ghost use Rattle.memo.specs.Memo.{Entry, Keeps, Meets, Moves, Recalls, Sums, Tells, TellsPast, countsAt, Forgotten, numberAt, setEntry};
 
 // The searches that are kept. The array's first number is the place, its second tells which search is given up next; behind them stand for each search
 // its open angle brackets, the square brackets that it has seen opened and closed, and what it finds.
-const MOST: usize = 16;
+const MOST: usize = 64;
 
 // The chunk at a place, where it ends before another: what a search has counted behind it; or the search may end in it.
 fn past_before(s: &[u8], t: &[u16; 36865], at: usize, to: usize, n: Counts) -> BodyPast
@@ -63,70 +64,129 @@ pub fn body_until(s: &[u8], t: &[u16; 36865], from: usize, to: usize, n: Counts)
 }
 
 // A search with an index, by its counts and its number: 0 tells nothing, 1 that it finds none, a higher one that it finds the brace two places below it.
-fn put(f: &mut [usize; 66], i: usize, n: Counts, number: usize)
-    requires { ⌜ (length (now f) ≡ 66) × (i < 16) ⌝ }
+fn put(f: &mut [usize; 258], i: usize, n: Counts, number: usize)
+    requires { ⌜ (length (now f) ≡ 258) × (i < 64) ⌝ }
     ensures { λ _. ⌜ now (f .exit) ≡ setEntry (now (f .entry)) i n number ⌝ }
 {
     f[2 + i] = n.angle;
-    f[18 + i] = n.opened;
-    f[34 + i] = n.closed;
-    f[50 + i] = number;
+    f[66 + i] = n.opened;
+    f[130 + i] = n.closed;
+    f[194 + i] = number;
 }
 
 // What the search with an index has counted.
-fn counts_of(f: &[usize; 66], i: usize) -> Counts
-    requires { ⌜ (length (now f) ≡ 66) × (i < 16) ⌝ }
+fn counts_of(f: &[usize; 258], i: usize) -> Counts
+    requires { ⌜ (length (now f) ≡ 258) × (i < 64) ⌝ }
     ensures { λ r. ⌜ r ≡ countsAt (now (f .entry)) i ⌝ }
 {
     Counts {
         angle: f[2 + i],
-        opened: f[18 + i],
-        closed: f[34 + i],
+        opened: f[66 + i],
+        closed: f[130 + i],
     }
 }
 
 // No search is kept, and the place is another.
-pub fn forget(f: &mut [usize; 66], at: usize)
-    requires { ⌜ length (now f) ≡ 66 ⌝ }
+pub fn forget(f: &mut [usize; 258], at: usize)
+    requires { ⌜ length (now f) ≡ 258 ⌝ }
     ensures { λ _. ⌜ Forgotten at (now (f .exit)) ⌝ }
 {
     f[0] = at;
     let mut i: usize = 0;
     while i < MOST {
-        f[50 + i] = 0;
+        f[194 + i] = 0;
         i += 1;
     }
 }
 
+// A search comes from one place to another: past all bytes at once where it cannot end in them.
+fn moved(s: &[u8], t: &[u16; 36865], from: usize, to: usize, c: Chunk, n: Counts) -> Reached
+    requires { ⌜ (from ≤ to) × (to ≤ length (now s)) × Counted n from × Sums (now s) from to c × Summed (now s) (now t) ⌝ }
+    ensures { λ r. ⌜ Reaches (now (s .entry)) from to n r ⌝ }
+{
+    if chunks::misses(c, n) {
+        return Reached::Further(chunks::counts_past(c, n));
+    }
+    body_until(s, t, from, to, n)
+}
+
 // The search with an index comes from one place to another, or is given up where it ends before that.
-fn move_on(s: &[u8], t: &[u16; 36865], from: usize, to: usize, i: usize, f: &mut [usize; 66])
+fn move_on(
+    s: &[u8],
+    t: &[u16; 36865],
+    from: usize,
+    to: usize,
+    c: Chunk,
+    i: usize,
+    f: &mut [usize; 258],
+)
     requires { ⌜
         (from ≤ to)
         × (to ≤ length (now s))
-        × (length (now f) ≡ 66)
-        × (i < 16)
+        × (length (now f) ≡ 258)
+        × (i < 64)
         × Entry (now s) from (countsAt (now f) i) (numberAt (now f) i)
+        × Sums (now s) from to c
         × Summed (now s) (now t)
         ⌝ }
     ensures { λ _. ⌜ Moves (now (s .entry)) to i (now (f .entry)) (now (f .exit)) ⌝ }
 {
-    let number = f[50 + i];
+    let number = f[194 + i];
     if number == 0 {
         return;
     }
-    let met = body_until(s, t, from, to, counts_of(f, i));
+    let met = moved(s, t, from, to, c, counts_of(f, i));
     match met {
         Reached::Further(n) => {
             put(f, i, n, number);
         }
         _ => {
-            f[50 + i] = 0;
+            f[194 + i] = 0;
         }
     }
 }
 
+// All searches come to a place that is at most a chunk further on.
+fn move_all(s: &[u8], t: &[u16; 36865], to: usize, f: &mut [usize; 258])
+    requires { ⌜
+        (getD (now f) 0 0 ≤ to)
+        × (to ≤ getD (now f) 0 0 + 4096)
+        × (to ≤ length (now s))
+        × Recalls (now s) (now f)
+        × Summed (now s) (now t)
+        ⌝ }
+    ensures { λ _. ⌜ (getD (now (f .exit)) 0 0 ≡ to) × Recalls (now (s .entry)) (now (f .exit)) ⌝ }
+{
+    let from = f[0];
+    let c = chunks::body_sum(s, from, to);
+    let mut i: usize = 0;
+    while i < MOST {
+        move_on(s, t, from, to, c, i, f);
+        i += 1;
+    }
+    f[0] = to;
+}
+
+// Whether a search may come to a place: one that finds a brace before it ends there. Nothing rests on the answer but time.
+fn is_alive(f: &[usize; 258], to: usize) -> bool
+    requires { ⌜ length (now f) ≡ 258 ⌝ }
+{
+    let mut i: usize = 0;
+    while i < MOST {
+        let number = f[194 + i];
+        if number == 1 {
+            return true;
+        }
+        if to < number {
+            return true;
+        }
+        i += 1;
+    }
+    false
+}
+
 // All searches come to a place.
-fn advance(s: &[u8], t: &[u16; 36865], to: usize, f: &mut [usize; 66])
+fn advance(s: &[u8], t: &[u16; 36865], to: usize, f: &mut [usize; 258])
     requires { ⌜
         (getD (now f) 0 0 ≤ to)
         × (to ≤ length (now s))
@@ -135,13 +195,15 @@ fn advance(s: &[u8], t: &[u16; 36865], to: usize, f: &mut [usize; 66])
         ⌝ }
     ensures { λ _. ⌜ (getD (now (f .exit)) 0 0 ≡ to) × Recalls (now (s .entry)) (now (f .exit)) ⌝ }
 {
-    let from = f[0];
-    let mut i: usize = 0;
-    while i < MOST {
-        move_on(s, t, from, to, i, f);
-        i += 1;
+    let mut at = f[0];
+    while at < to {
+        if !is_alive(f, to) {
+            forget(f, to);
+            return;
+        }
+        at = flat::ahead(at, chunks::SIZE, to);
+        move_all(s, t, at, f);
     }
-    f[0] = to;
 }
 
 // Whether a search has another's depths.
@@ -156,17 +218,17 @@ fn is_same(a: Counts, b: Counts) -> bool
 }
 
 // The number of a search that is kept with the same depths, 0 where none is.
-fn find(f: &[usize; 66], n: Counts) -> usize
+fn find(f: &[usize; 258], n: Counts) -> usize
     requires { ⌜
-        (length (now f) ≡ 66)
+        (length (now f) ≡ 258)
         × Counted n 9223372036854775807
-        × ((i : ℕ) → i < 16 → numberAt (now f) i ≢ 0 → Counted (countsAt (now f) i) 9223372036854775807)
+        × ((i : ℕ) → i < 64 → numberAt (now f) i ≢ 0 → Counted (countsAt (now f) i) 9223372036854775807)
         ⌝ }
     ensures { λ r. ⌜ Meets (now (f .entry)) n r ⌝ }
 {
     let mut i: usize = 0;
     while i < MOST {
-        let number = f[50 + i];
+        let number = f[194 + i];
         if number != 0 {
             if is_same(counts_of(f, i), n) {
                 return number;
@@ -179,7 +241,7 @@ fn find(f: &[usize; 66], n: Counts) -> usize
 
 // What a search finds that has so much counted at a place; 0 where that is not known. The place is kept. Searches that are kept for a place further on
 // are given up.
-pub fn recall(s: &[u8], t: &[u16; 36865], at: usize, n: Counts, f: &mut [usize; 66]) -> usize
+pub fn recall(s: &[u8], t: &[u16; 36865], at: usize, n: Counts, f: &mut [usize; 258]) -> usize
     requires { ⌜ (at ≤ length (now s)) × Counted n at × Recalls (now s) (now f) × Summed (now s) (now t) ⌝ }
     ensures { λ r. ⌜
         Tells r (bodyFrom (now (s .entry)) at n)
@@ -196,8 +258,8 @@ pub fn recall(s: &[u8], t: &[u16; 36865], at: usize, n: Counts, f: &mut [usize; 
 }
 
 // A search is kept in place of the one that was kept first.
-pub fn keep(f: &mut [usize; 66], n: Counts, number: usize)
-    requires { ⌜ length (now f) ≡ 66 ⌝ }
+pub fn keep(f: &mut [usize; 258], n: Counts, number: usize)
+    requires { ⌜ length (now f) ≡ 258 ⌝ }
     ensures { λ _. ⌜ Keeps n number (now (f .entry)) (now (f .exit)) ⌝ }
 {
     let i = f[1] % MOST;
@@ -212,7 +274,7 @@ const STEP: usize = 64;
 const REACH: usize = 512;
 
 // Where a search that begins at a place is looked up: at the place that is kept, if that is near.
-pub fn mark_after(f: &[usize; 66], from: usize, end: usize) -> usize
+pub fn mark_after(f: &[usize; 258], from: usize, end: usize) -> usize
     requires { ⌜ from ≤ end ⌝ }
     ensures { λ r. ⌜ (from ≤ r) × (r ≤ end) ⌝ }
 {

@@ -1,41 +1,60 @@
--- `memo::advance` meets its contract: at each turn the searches before the index have come to the place.
+-- `memo::advance` meets its contract: at each turn all searches have come to a place, the last time to the one that is asked for.
 use Prim.Native.Nat.{_-_, _≤_}
+use mathlib.Core.Path.{_≡_, refl}
 use native.Mathlib.Omega.{arith}
 use borrow.Author.Needs.{needs}
 use denote.Ref.{now}
-use Rattle.memo.specs.Moving.{Between, all-there, none-yet, one-more}
+use lib.ListN.{getD}
+use Rattle.memo.specs.Memo.{Recalls, recalls-nothing}
 use Rattle.memo.proofs.advance.Statement.{statement}
 use Rattle.memo.proofs.advance.Tie as tie
 
 abbrev Inv-loop : tie.InvT-loop
-Inv-loop s t to f₀ from i₀ f i = (i ≤ 16) × Between s from to i f
+Inv-loop s t to f₀ at₀ f at = (getD f 0 0 ≡ at) × (at ≤ to) × Recalls s f
 
 abbrev μ-loop : tie.MeasureT-loop
-μ-loop s t to f₀ from i₀ f i = 16 - i
+μ-loop s t to f₀ at₀ f at = to - at
 
 loop-holds : tie.Need-loop-holds Inv-loop μ-loop
-loop-holds c =
-    let b = c .before .before in
-    (omega arith, none-yet (now (b .args .s)) (now (b .args .f)) (b .args .to) (b .pre .2))
+loop-holds c = let b = c .before .before in (refl, b .pre .0, b .pre .2)
 
-move-on-requires : tie.Need-move-on-requires Inv-loop μ-loop
-move-on-requires c κs =
-    let l = c .before .before in
-    let b = l .before .before .before in
-    let w = l .loop .inv .1 in
-    (b .pre .0, b .pre .1, w .room, c .before .loop-test .taken, w .here (l .loop .i) (omega arith) (c .before .loop-test .taken), b .pre .3)
+is-alive-requires : tie.Need-is-alive-requires Inv-loop μ-loop
+is-alive-requires c κs = c .before .before .loop .inv .2 .room
 
-loop-again : tie.Need-loop-again Inv-loop μ-loop
-loop-again c =
-    let i = c .before .before in
-    let l = i .before in
-    (omega arith, one-more _ _ _ _ _ _ (l .loop .inv .1) (c .move-on .ensures))
+forget-requires : tie.Need-forget-requires Inv-loop μ-loop
+forget-requires c κs = let l = c .before .before .before .before .before in l .loop .inv .2 .room
 
 returns : tie.Need-returns Inv-loop μ-loop
 returns c =
-    let l = c .before in
+    let l = c .before .before .before .before .before .before in
     let b = l .before .before .before in
-    all-there (now (b .args .s)) _ (b .args .to) (l .loop .i) (l .loop .f) (c .loop-test .left) (b .pre .1) (l .loop .inv .1)
+    (c .forget .ensures .place, recalls-nothing (now (b .args .s)) _ (b .args .to) (b .pre .1) (c .forget .ensures))
+
+ahead-requires : tie.Need-ahead-requires Inv-loop μ-loop
+ahead-requires c κs = let l = c .before .before .before .before in l .loop .inv .1
+
+move-all-requires : tie.Need-move-all-requires Inv-loop μ-loop
+move-all-requires c κs =
+    let h = c .before in
+    let l = h .before .before .before .before .before in
+    let b = l .before .before .before in
+    let i = l .loop .inv in
+    (omega (arith, i .0, i .1, h .ahead .ensures), omega (arith, i .0, h .ahead .ensures), omega (arith, b .pre .1, h .ahead .ensures), i .2, b .pre .3)
+
+loop-less : tie.Need-loop-less Inv-loop μ-loop
+loop-less c =
+    let h = c .before .before in
+    omega (arith, h .ahead .ensures, h .before .before .before .before .loop-test .taken)
+
+loop-again : tie.Need-loop-again Inv-loop μ-loop
+loop-again c =
+    let h = c .before .before in
+    (c .move-all .ensures .0, omega (arith, h .ahead .ensures), c .move-all .ensures .1)
+
+returns-2 : tie.Need-returns-2 Inv-loop μ-loop
+returns-2 c =
+    let l = c .before in
+    (omega (arith, l .loop .inv .0, l .loop .inv .1, c .loop-test .left), l .loop .inv .2)
 
 pub advance-spec : {M : Type 1} → statement M
 advance-spec =
@@ -45,9 +64,11 @@ advance-spec =
     μ-loop
     (λ c. search needs)
     loop-holds
-    move-on-requires
-    (λ c. search needs)
-    (λ c. omega arith)
+    is-alive-requires
+    forget-requires
+    returns
+    ahead-requires
+    move-all-requires
+    loop-less
     loop-again
-    (λ c. search needs)
-    returns)
+    returns-2)

@@ -15,10 +15,10 @@ use Rattle.memo.proofs.forget.Statement.{statement}
 use Rattle.memo.proofs.forget.Tie as tie
 
 abbrev Inv-loop : tie.InvT-loop
-Inv-loop f₀ at i₀ f i = (i ≤ 16) × (length f ≡ 66) × (getD f 0 0 ≡ at) × ((j : ℕ) → j < i → numberAt f j ≡ 0)
+Inv-loop f₀ at i₀ f i = (i ≤ 64) × (length f ≡ 258) × (getD f 0 0 ≡ at) × ((j : ℕ) → j < i → numberAt f j ≡ 0)
 
 abbrev μ-loop : tie.MeasureT-loop
-μ-loop f₀ at i₀ f i = 16 - i
+μ-loop f₀ at i₀ f i = 64 - i
 
 loop-holds : tie.Need-loop-holds Inv-loop μ-loop
 loop-holds c =
@@ -32,12 +32,12 @@ loop-again c =
     let f = l .f in
     let i = l .i in (
       omega arith,
-      length-set f (50 + i) 0 ∙ l .inv .1,
-      getD-set-other f (50 + i) 0 0 0 (λ e. omega (arith, e)) ∙ l .inv .2,
+      length-set f (194 + i) 0 ∙ l .inv .1,
+      getD-set-other f (194 + i) 0 0 0 (λ e. omega (arith, e)) ∙ l .inv .2,
       λ j m.
           elim (whether (eqb j i)) [
-            | inl q ↦ subst (λ k. getD (set f (50 + i) 0) (50 + k) 0 ≡ 0) (sym (eqb-true j i q)) (getD-set-same f (50 + i) 0 0 (omega (arith, l .inv .1)))
-            | inr d ↦ getD-set-other f (50 + i) (50 + j) 0 0 (λ e. eqb-false j i d (omega (arith, e))) ∙ l .inv .3 j (omega (arith, m, eqb-false j i d))
+            | inl q ↦ subst (λ k. getD (set f (194 + i) 0) (194 + k) 0 ≡ 0) (sym (eqb-true j i q)) (getD-set-same f (194 + i) 0 0 (omega (arith, l .inv .1)))
+            | inr d ↦ getD-set-other f (194 + i) (194 + j) 0 0 (λ e. eqb-false j i d (omega (arith, e))) ∙ l .inv .3 j (omega (arith, m, eqb-false j i d))
           ],
     )
 

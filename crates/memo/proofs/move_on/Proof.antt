@@ -13,11 +13,11 @@ returns c =
     let a = c .before .before .before .args in
     stays (now (a .s)) (now (a .f)) (a .to) (a .i) (c .if1 .taken)
 
-body-until-requires : tie.Need-body-until-requires
-body-until-requires c κs =
+moved-requires : tie.Need-moved-requires
+moved-requires c κs =
     let e = c .before .before in
     let b = e .before .before .before in
-    (b .pre .0, b .pre .1, subst (λ n. Counted n (b .args .from)) (sym (c .counts-of .ensures)) (b .pre .4 .counted (e .if1 .left)), b .pre .5)
+    (b .pre .0, b .pre .1, subst (λ n. Counted n (b .args .from)) (sym (c .counts-of .ensures)) (b .pre .4 .counted (e .if1 .left)), b .pre .5, b .pre .6)
 
 returns-2 : tie.Need-returns-2
 returns-2 c =
@@ -29,7 +29,7 @@ returns-2 c =
     let s = now (a .s) in
     let f = now (a .f) in
     let n = k .met .given .0 .0 in
-    let e = subst (Reaches s (a .from) (a .to) (h .counts-of .result)) (k .met .given .1) (p .body-until .ensures) in
+    let e = subst (Reaches s (a .from) (a .to) (h .counts-of .result)) (k .met .given .1) (p .moved .ensures) in
     let same = ap (bodyFrom s (a .from)) (sym (h .counts-of .ensures)) ∙ e .0 in
     subst (Moves s (a .to) (a .i) f) (sym (c .put .ensures)) (goes-on s f (a .from) (a .to) (a .i) n (b .pre .3) (b .pre .2) (b .pre .4) same (e .1))
 
@@ -48,7 +48,7 @@ move-on-spec =
     (λ c. search needs)
     returns
     (λ c κs. search needs)
-    body-until-requires
+    moved-requires
     (λ c. search needs)
     (λ c κs. search needs)
     (λ c. search needs)
