@@ -77,7 +77,7 @@ fn record_of(number: usize, place: usize, f: Found) -> Record
 }
 
 // The records of a blanked text's functions, the first with the number `done`; answers the number behind the last. The arrays are for what is
-// noted of the text and for the sums of its chunks, and hold nothing of the text before.
+// noted of the text, for the sums of its chunks and for the searches that are kept, and hold nothing of the text before.
 fn scan_text(
     s: &[u8],
     number: usize,
@@ -86,6 +86,7 @@ fn scan_text(
     done: usize,
     noted: &mut [u32; 4099],
     sums: &mut [u16; 36865],
+    kept: &mut [usize; 258],
 ) -> usize
     requires { ⌜
         (number < 1024)
@@ -93,20 +94,23 @@ fn scan_text(
         × (done ≤ 17179869184)
         × (length (now noted) ≡ 4099)
         × (length (now sums) ≡ 36865)
+        × (length (now kept) ≡ 258)
         ⌝ }
     ensures { λ r. ⌜
         (r ≡ done + length (functions (now (s .entry))))
         × (now (lent .exit) ≡ putRecords done (recordsFor number place (functions (now (s .entry)))) (now (lent .entry)))
         × (length (now (noted .exit)) ≡ 4099)
         × (length (now (sums .exit)) ≡ 36865)
+        × (length (now (kept .exit)) ≡ 258)
         ⌝ }
 {
     windows::clear(noted);
     chunks::clear(sums);
+    memo::forget(kept, 0);
     let mut c = source::start(s);
     let mut n = done;
     loop {
-        let step = c.next(s, noted, sums);
+        let step = c.next(s, noted, sums, kept);
         match step {
             Step::Function(f, d) => {
                 put_numbered(lent, n, record_of(number, place, f));
@@ -131,6 +135,7 @@ fn scan_texts(tree: &[u8], work: &[u8], lent: &mut [u8]) -> usize
     let n = tree::file_count(tree);
     let mut noted = [0u32; 4099];
     let mut sums = [0u16; 36865];
+    let mut kept = [0usize; 258];
     let mut file = 0;
     let mut done = 0;
     while file < n {
@@ -145,6 +150,7 @@ fn scan_texts(tree: &[u8], work: &[u8], lent: &mut [u8]) -> usize
             done,
             &mut noted,
             &mut sums,
+            &mut kept,
         );
         file += 1;
     }

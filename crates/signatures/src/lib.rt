@@ -1,7 +1,7 @@
 // The end of a list of parameters, the partner of a round bracket, and the brace that opens the body behind it. What is noted of the brackets of a part of
 // the text is used, so that lists inside one another are not each sought to their end, nor the bodies behind them.
-// A search that goes far passes chunks in which it cannot end without reading them.
-use chunks::BodyPast;
+// A search that goes far passes chunks in which it cannot end without reading them. What a search for a body found is kept for others that
+// come to the same place at the same depths.
 use chunks::Past;
 use flat::Counts;
 use flat::Reached;
@@ -15,7 +15,7 @@ ghost use Rattle.flat.specs.Body.{Counted, bodyFrom};
 ghost use Rattle.search.specs.Place.{placeOf};
 ghost use Rattle.chunks.specs.Table.{Summed};
 ghost use Rattle.parts.specs.Told.{Lent, bodyBehind, soughtFrom};
-ghost use Rattle.signatures.specs.Signatures.{Begins, Follows, nothingCounted};
+ghost use Rattle.signatures.specs.Signatures.{Begins, Follows, Lends, nothingCounted, numberFor};
 
 // The bytes in which a list is sought first, and a body: most end before that, and nothing is noted for them.
 const NEAR: usize = 4096;
@@ -76,8 +76,7 @@ pub enum Sought {
     Broken,
 }
 
-// The body behind a list that ends at `closed`, sought to the end of the text from a place with what is counted up to there. Chunks are passed, or read
-// up to the next.
+// The body behind a list that ends at `closed`, sought to the end of the text from a place with what is counted up to there.
 fn far_body(s: &[u8], t: &[u16; 36865], closed: usize, from: usize, n: Counts) -> Sought
     requires { ⌜
         (from ≤ length (now s))
@@ -87,34 +86,12 @@ fn far_body(s: &[u8], t: &[u16; 36865], closed: usize, from: usize, n: Counts) -
         ⌝ }
     ensures { λ r. ⌜ Follows (now (s .entry)) closed r ⌝ }
 {
-    let mut at = from;
-    let mut counts = n;
-    while at < s.len() {
-        let past = chunks::body_past(s, t, at, counts);
-        match past {
-            BodyPast::Further(k) => {
-                at += chunks::SIZE;
-                counts = k;
-            }
-            BodyPast::Held => {
-                let to = chunks::edge_after(at, s.len());
-                let met = flat::body_before(s, at, to, counts);
-                match met {
-                    Reached::Brace(body) => {
-                        return Sought::Both(closed, body);
-                    }
-                    Reached::Ended => {
-                        return Sought::Broken;
-                    }
-                    Reached::Further(k) => {
-                        at = to;
-                        counts = k;
-                    }
-                }
-            }
-        }
+    let met = memo::body_until(s, t, from, s.len(), n);
+    match met {
+        Reached::Brace(body) => Sought::Both(closed, body),
+        Reached::Ended => Sought::Broken,
+        Reached::Further(_) => Sought::Broken,
     }
-    Sought::Broken
 }
 
 // At the start of a search for a body nothing is counted.
@@ -225,45 +202,132 @@ fn noted_body(
     far_body(s, t, closed, near, n)
 }
 
-// What follows a `(` before `from` whose list ends at `closed`.
+// What follows a `(` before `from` whose list ends at `closed`. No body is met up to the place `at`, where so much is counted. It is sought nearby first.
+fn further_body(
+    s: &[u8],
+    from: usize,
+    closed: usize,
+    at: usize,
+    n: Counts,
+    m: &mut [u32; 4099],
+    t: &mut [u16; 36865],
+) -> Sought
+    requires { ⌜
+        (from ≤ at)
+        × (at ≤ length (now s))
+        × Counted n at
+        × (soughtFrom (now s) from 0 ≡ some closed)
+        × (bodyBehind (now s) closed ≡ bodyFrom (now s) at n)
+        × Lent (now s) (now m) (now t)
+        ⌝ }
+    ensures { λ r. ⌜ Begins (now (s .entry)) from r × Lent (now (s .entry)) (now (m .exit)) (now (t .exit)) ⌝ }
+{
+    let near = flat::ahead(at, NEAR, s.len());
+    let met = flat::body_before(s, at, near, n);
+    match met {
+        Reached::Brace(body) => Sought::Both(closed, body),
+        Reached::Ended => Sought::Broken,
+        Reached::Further(k) => noted_body(s, from, closed, near, k, m, t),
+    }
+}
+
+// The number by which a search for a body is kept: two more than the place of the brace, or 1 where there is none.
+fn number_of(r: Sought) -> usize
+    requires { ⌜ numberFor r < 18446744073709551616 ⌝ }
+    ensures { λ k. ⌜ k ≡ numberFor r ⌝ }
+{
+    match r {
+        Sought::Both(_, body) => body + 2,
+        Sought::Broken => 1,
+    }
+}
+
+// What follows a `(` before `from` whose list ends at `closed`. No body is met up to the place `mark`, where so much is counted. What a search found that
+// came there at the same depths is used; where none is kept the body is sought, and what is found is kept.
+fn marked_body(
+    s: &[u8],
+    from: usize,
+    closed: usize,
+    mark: usize,
+    n: Counts,
+    m: &mut [u32; 4099],
+    t: &mut [u16; 36865],
+    f: &mut [usize; 258],
+) -> Sought
+    requires { ⌜
+        (from ≤ mark)
+        × (mark ≤ length (now s))
+        × Counted n mark
+        × (soughtFrom (now s) from 0 ≡ some closed)
+        × (bodyBehind (now s) closed ≡ bodyFrom (now s) mark n)
+        × Lends (now s) (now m) (now t) (now f)
+        ⌝ }
+    ensures { λ r. ⌜ Begins (now (s .entry)) from r × Lends (now (s .entry)) (now (m .exit)) (now (t .exit)) (now (f .exit)) ⌝ }
+{
+    let known = memo::recall(s, t, mark, n, f);
+    if known == 1 {
+        return Sought::Broken;
+    }
+    if 1 < known {
+        return Sought::Both(closed, known - 2);
+    }
+    let r = further_body(s, from, closed, mark, n, m, t);
+    memo::keep(f, n, number_of(r));
+    r
+}
+
+// What follows a `(` before `from` whose list ends at `closed`. The body is sought up to a place at which searches are looked up.
 fn near_body(
     s: &[u8],
     from: usize,
     closed: usize,
     m: &mut [u32; 4099],
     t: &mut [u16; 36865],
+    f: &mut [usize; 258],
 ) -> Sought
-    requires { ⌜ (soughtFrom (now s) from 0 ≡ some closed) × Lent (now s) (now m) (now t) ⌝ }
-    ensures { λ r. ⌜ Begins (now (s .entry)) from r × Lent (now (s .entry)) (now (m .exit)) (now (t .exit)) ⌝ }
+    requires { ⌜ (soughtFrom (now s) from 0 ≡ some closed) × Lends (now s) (now m) (now t) (now f) ⌝ }
+    ensures { λ r. ⌜ Begins (now (s .entry)) from r × Lends (now (s .entry)) (now (m .exit)) (now (t .exit)) (now (f .exit)) ⌝ }
 {
     let behind = closed + 1;
-    let near = flat::ahead(behind, NEAR, s.len());
-    let met = flat::body_before(s, behind, near, nothing());
+    let mark = memo::mark_after(f, behind, s.len());
+    let met = flat::body_before(s, behind, mark, nothing());
     match met {
         Reached::Brace(body) => Sought::Both(closed, body),
         Reached::Ended => Sought::Broken,
-        Reached::Further(n) => noted_body(s, from, closed, near, n, m, t),
+        Reached::Further(n) => marked_body(s, from, closed, mark, n, m, t, f),
     }
 }
 
 // What follows a `(` that stands before `from`, sought nearby first.
-fn sought_after(s: &[u8], from: usize, m: &mut [u32; 4099], t: &mut [u16; 36865]) -> Sought
-    requires { ⌜ (from ≤ length (now s)) × Lent (now s) (now m) (now t) ⌝ }
-    ensures { λ r. ⌜ Begins (now (s .entry)) from r × Lent (now (s .entry)) (now (m .exit)) (now (t .exit)) ⌝ }
+fn sought_after(
+    s: &[u8],
+    from: usize,
+    m: &mut [u32; 4099],
+    t: &mut [u16; 36865],
+    f: &mut [usize; 258],
+) -> Sought
+    requires { ⌜ (from ≤ length (now s)) × Lends (now s) (now m) (now t) (now f) ⌝ }
+    ensures { λ r. ⌜ Begins (now (s .entry)) from r × Lends (now (s .entry)) (now (m .exit)) (now (t .exit)) (now (f .exit)) ⌝ }
 {
     let near = flat::ahead(from, NEAR, s.len());
     let met = search::partner_before(s, b'(', b')', from, near, 0);
     match met {
-        Met::Partner(closed) => near_body(s, from, closed, m, t),
+        Met::Partner(closed) => near_body(s, from, closed, m, t, f),
         Met::Depth(depth) => noted_list(s, from, near, depth, m, t),
     }
 }
 
 // What follows a `(` that stands before `from`: the end of its list and the brace of its body, or not both. Where that is noted, nothing is sought,
 // and the use is counted.
-pub fn brackets_after(s: &[u8], from: usize, m: &mut [u32; 4099], t: &mut [u16; 36865]) -> Sought
-    requires { ⌜ (from ≤ length (now s)) × Lent (now s) (now m) (now t) ⌝ }
-    ensures { λ r. ⌜ Begins (now (s .entry)) from r × Lent (now (s .entry)) (now (m .exit)) (now (t .exit)) ⌝ }
+pub fn brackets_after(
+    s: &[u8],
+    from: usize,
+    m: &mut [u32; 4099],
+    t: &mut [u16; 36865],
+    f: &mut [usize; 258],
+) -> Sought
+    requires { ⌜ (from ≤ length (now s)) × Lends (now s) (now m) (now t) (now f) ⌝ }
+    ensures { λ r. ⌜ Begins (now (s .entry)) from r × Lends (now (s .entry)) (now (m .exit)) (now (t .exit)) (now (f .exit)) ⌝ }
 {
     let p = windows::pair_at(m, from);
     if p.first == parts::NEVER {
@@ -271,10 +335,10 @@ pub fn brackets_after(s: &[u8], from: usize, m: &mut [u32; 4099], t: &mut [u16; 
         return Sought::Broken;
     }
     if p.first == 0 {
-        return sought_after(s, from, m, t);
+        return sought_after(s, from, m, t, f);
     }
     if p.second == 0 {
-        return sought_after(s, from, m, t);
+        return sought_after(s, from, m, t, f);
     }
     windows::mark_used(m);
     Sought::Both(wide(p.first) - 1, wide(p.second) - 1)

@@ -14,7 +14,7 @@ ghost use Prim.Native.Nat.{_+_, _≤_, _<_};
 ghost use lib.ListN.{length, getD};
 ghost use Rattle.text_rules.specs.Classes.{braceOpen};
 ghost use Rattle.search.specs.Place.{Learned};
-ghost use Rattle.parts.specs.Told.{Lent};
+ghost use Rattle.signatures.specs.Signatures.{Lends};
 ghost use Rattle.source_rules.specs.TextScan.{functions};
 ghost use Rattle.source.specs.Cursors.{Barren, Blocked, Closed, FoundAt, Measures, Quieter, Ready, Signed, SpanAt, Stepped, Turned, remaining};
 
@@ -170,15 +170,16 @@ fn signature_sought(
     v: Learnt,
     noted: &mut [u32; 4099],
     sums: &mut [u16; 36865],
+    kept: &mut [usize; 258],
 ) -> Signature
-    requires { ⌜ Learned (now s) v × Lent (now s) (now noted) (now sums) ⌝ }
-    ensures { λ r. ⌜ Signed (now (s .entry)) to r × Lent (now (s .entry)) (now (noted .exit)) (now (sums .exit)) ⌝ }
+    requires { ⌜ Learned (now s) v × Lends (now s) (now noted) (now sums) (now kept) ⌝ }
+    ensures { λ r. ⌜ Signed (now (s .entry)) to r × Lends (now (s .entry)) (now (noted .exit)) (now (sums .exit)) (now (kept .exit)) ⌝ }
 {
     let Place::At(opened) = search::find(s, b'(', to) else {
         return Signature::Broken(s.len(), v);
     };
     let inside = opened + 1;
-    let Sought::Both(closed, body) = signatures::brackets_after(s, inside, noted, sums) else {
+    let Sought::Both(closed, body) = signatures::brackets_after(s, inside, noted, sums, kept) else {
         return Signature::Broken(inside, v);
     };
     let block = block_at(s, body, v);
@@ -206,14 +207,15 @@ fn signature_at(
     v: Learnt,
     noted: &mut [u32; 4099],
     sums: &mut [u16; 36865],
+    kept: &mut [usize; 258],
 ) -> Signature
-    requires { ⌜ Learned (now s) v × Lent (now s) (now noted) (now sums) ⌝ }
-    ensures { λ r. ⌜ Signed (now (s .entry)) to r × Lent (now (s .entry)) (now (noted .exit)) (now (sums .exit)) ⌝ }
+    requires { ⌜ Learned (now s) v × Lends (now s) (now noted) (now sums) (now kept) ⌝ }
+    ensures { λ r. ⌜ Signed (now (s .entry)) to r × Lends (now (s .entry)) (now (noted .exit)) (now (sums .exit)) (now (kept .exit)) ⌝ }
 {
     if is_behind_braces(v, to) {
         return Signature::Broken(s.len(), v);
     }
-    signature_sought(s, to, v, noted, sums)
+    signature_sought(s, to, v, noted, sums, kept)
 }
 
 // The function on a line whose name stands from one place up to another.
@@ -264,14 +266,20 @@ pub fn start(s: &[u8]) -> Cursor
 
 impl Cursor {
     // The function whose `fn` stands at the next byte.
-    fn measure(self, s: &[u8], noted: &mut [u32; 4099], sums: &mut [u16; 36865]) -> Measure
+    fn measure(
+        self,
+        s: &[u8],
+        noted: &mut [u32; 4099],
+        sums: &mut [u16; 36865],
+        kept: &mut [usize; 258],
+    ) -> Measure
         requires { ⌜
             (self .at + 2 ≤ length (now s))
             × Barren (now s) (self .«barren_from») (self .«barren_to»)
             × Learned (now s) (self .learnt)
-            × Lent (now s) (now noted) (now sums)
+            × Lends (now s) (now noted) (now sums) (now kept)
             ⌝ }
-        ensures { λ r. ⌜ Measures (now (s .entry)) self r × Lent (now (s .entry)) (now (noted .exit)) (now (sums .exit)) ⌝ }
+        ensures { λ r. ⌜ Measures (now (s .entry)) self r × Lends (now (s .entry)) (now (noted .exit)) (now (sums .exit)) (now (kept .exit)) ⌝ }
     {
         let from = search::space_end(s, self.at + 2);
         let to = search::word_end(s, from);
@@ -285,7 +293,7 @@ impl Cursor {
                 return Measure::Nothing(self.barren_from, self.barren_to, v);
             }
         }
-        let g = signature_at(s, to, v, noted, sums);
+        let g = signature_at(s, to, v, noted, sums, kept);
         match g {
             Signature::Broken(n, w) => Measure::Nothing(to, n, w),
             Signature::Whole(b, w) => {
@@ -341,9 +349,15 @@ impl Cursor {
     }
 
     // Past the next byte.
-    fn turn_at(self, s: &[u8], noted: &mut [u32; 4099], sums: &mut [u16; 36865]) -> Turn
-        requires { ⌜ (self .at < length (now s)) × Ready (now s) self × Lent (now s) (now noted) (now sums) ⌝ }
-        ensures { λ r. ⌜ Turned (now (s .entry)) self r × Lent (now (s .entry)) (now (noted .exit)) (now (sums .exit)) ⌝ }
+    fn turn_at(
+        self,
+        s: &[u8],
+        noted: &mut [u32; 4099],
+        sums: &mut [u16; 36865],
+        kept: &mut [usize; 258],
+    ) -> Turn
+        requires { ⌜ (self .at < length (now s)) × Ready (now s) self × Lends (now s) (now noted) (now sums) (now kept) ⌝ }
+        ensures { λ r. ⌜ Turned (now (s .entry)) self r × Lends (now (s .entry)) (now (noted .exit)) (now (sums .exit)) (now (kept .exit)) ⌝ }
     {
         let at = self.at;
         let b = s[at];
@@ -367,7 +381,7 @@ impl Cursor {
         if !search::word_at(s, at) {
             return Turn::Past(c);
         }
-        let m = self.measure(s, noted, sums);
+        let m = self.measure(s, noted, sums, kept);
         match m {
             Measure::Nothing(from, to, v) => {
                 c.barren_from = from;
@@ -383,10 +397,17 @@ impl Cursor {
         }
     }
 
-    // The next function of the text. One array holds what is noted of the brackets that follow its names, the other the sums of its chunks.
-    pub fn next(self, s: &[u8], noted: &mut [u32; 4099], sums: &mut [u16; 36865]) -> Step
-        requires { ⌜ Ready (now s) self × Lent (now s) (now noted) (now sums) ⌝ }
-        ensures { λ r. ⌜ Stepped (now (s .entry)) self r × Lent (now (s .entry)) (now (noted .exit)) (now (sums .exit)) ⌝ }
+    // The next function of the text. The arrays hold what is noted of the brackets that follow its names, the sums of its chunks, and what the last long
+    // searches for a body found.
+    pub fn next(
+        self,
+        s: &[u8],
+        noted: &mut [u32; 4099],
+        sums: &mut [u16; 36865],
+        kept: &mut [usize; 258],
+    ) -> Step
+        requires { ⌜ Ready (now s) self × Lends (now s) (now noted) (now sums) (now kept) ⌝ }
+        ensures { λ r. ⌜ Stepped (now (s .entry)) self r × Lends (now (s .entry)) (now (noted .exit)) (now (sums .exit)) (now (kept .exit)) ⌝ }
     {
         let mut c = self;
         while c.at < s.len() {
@@ -396,7 +417,7 @@ impl Cursor {
             if c.at == s.len() {
                 return Step::End;
             }
-            let t = c.turn_at(s, noted, sums);
+            let t = c.turn_at(s, noted, sums, kept);
             match t {
                 Turn::Yield(f, d) => {
                     return Step::Function(f, d);

@@ -24,7 +24,7 @@ abbrev rest : List ℕ → ℕ → ℕ → List (List ℕ)
 rest tree n k = recordsOfFiles (sourcesFrom tree (n - k) k (4 + 16 * k))
 
 abbrev Inv-loop : tie.InvT-loop
-Inv-loop tree work lent₀ n noted₀ sums₀ k₀ done₀ lent noted sums k done =
+Inv-loop tree work lent₀ n noted₀ sums₀ kept₀ k₀ done₀ lent noted sums kept k done =
     (k ≤ n)
     × (length lent ≡ length lent₀)
     × (done ≤ k * 16777216)
@@ -32,9 +32,10 @@ Inv-loop tree work lent₀ n noted₀ sums₀ k₀ done₀ lent noted sums k don
     × (putRecords done (map recordBytes (rest tree n k)) lent ≡ putRecords 0 (map recordBytes (records tree)) lent₀)
     × (length noted ≡ 4099)
     × (length sums ≡ 36865)
+    × (length kept ≡ 258)
 
 abbrev μ-loop : tie.MeasureT-loop
-μ-loop tree work lent₀ n noted₀ sums₀ k₀ done₀ lent noted sums k done = n - k
+μ-loop tree work lent₀ n noted₀ sums₀ kept₀ k₀ done₀ lent noted sums kept k done = n - k
 
 -- the part of work that is handed on is the blanked text
 text-there : (tree work : List ℕ) (k from to : ℕ) → TextsIn tree work → k < fileCount tree → from ≡ textOffset tree (entryAt k) → to ≡ textOffset tree (entryAt k) + textLength tree (entryAt k)
@@ -63,7 +64,7 @@ loop-holds c =
     let e : n - 0 ≡ fileCount tree = omega (arith, c .file-count .ensures) in
     let all : rest tree n 0 ≡ recordsOfFiles (sourcesFrom tree (fileCount tree) 0 4) = ap (λ m. recordsOfFiles (sourcesFrom tree m 0 4)) e in
     let same = ap (λ rs. putRecords 0 (map recordBytes rs) (now (s .args .lent))) all in
-    (omega arith, refl, omega arith, omega (arith, ap length all), same, length-replicate {A = ℕ} 4099 0, length-replicate {A = ℕ} 36865 0)
+    (omega arith, refl, omega arith, omega (arith, ap length all), same, length-replicate {A = ℕ} 4099 0, length-replicate {A = ℕ} 36865 0, length-replicate {A = ℕ} 258 0)
 
 text-span-requires : tie.Need-text-span-requires Inv-loop μ-loop
 text-span-requires c κs =
@@ -78,7 +79,7 @@ part-end c =
 
 scan-text-requires : tie.Need-scan-text-requires Inv-loop μ-loop
 scan-text-requires c κs =
-    let ts = c .before .before .before .before in
+    let ts = c .before .before .before .before .before in
     let l = ts .before .before in
     let fc = l .before in
     let s = fc .before .before .before .before in
@@ -87,12 +88,12 @@ scan-text-requires c κs =
     let f = file-at tree (l .loop .file) (s .pre .0) (omega (arith, fc .file-count .ensures)) in
     let few-files = f .number-small in
     let inside = part-size (ts .text-span .result .from) (ts .text-span .result .to) (now (s .args .work)) (t .2) in
-    (omega arith, omega (arith, inside, t .3, s .pre .1), omega (arith, l .loop .inv .2), l .loop .inv .5, l .loop .inv .6)
+    (omega arith, omega (arith, inside, t .3, s .pre .1), omega (arith, l .loop .inv .2), l .loop .inv .5, l .loop .inv .6, l .loop .inv .7)
 
 loop-again : tie.Need-loop-again Inv-loop μ-loop
 loop-again c =
     let sc = c .before .before in
-    let ts = sc .before .before .before .before .before in
+    let ts = sc .before .before .before .before .before .before in
     let l = ts .before .before in
     let fc = l .before in
     let s = fc .before .before .before .before in
@@ -116,6 +117,7 @@ loop-again c =
       ap₂ (λ m buffer. putRecords m (map recordBytes (rest tree n (k + 1))) buffer) size put ∙ sym (left-put tree n k h done lent) ∙ l .loop .inv .4,
       sc .scan-text .ensures .2,
       sc .scan-text .ensures .3,
+      sc .scan-text .ensures .4,
     )
 
 returns : tie.Need-returns Inv-loop μ-loop

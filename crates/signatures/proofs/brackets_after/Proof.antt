@@ -16,8 +16,8 @@ returns c =
     let b = n .before .before .before in
     let a = b .args in
     let s = now (a .s) in
-    let told = found-told s _ (a .from) _ _ (b .pre .1 .0) (n .pair-at .ensures) in
-    (told .nowhere (x .if1 .taken), (noted-kept (Told s) _ _ (b .pre .1 .0) (c .mark-used .ensures), b .pre .1 .1))
+    let told = found-told s _ (a .from) _ _ (b .pre .1 .0 .0) (n .pair-at .ensures) in
+    (told .nowhere (x .if1 .taken), ((noted-kept (Told s) _ _ (b .pre .1 .0 .0) (c .mark-used .ensures), b .pre .1 .0 .1), b .pre .1 .1))
 
 returns-4 : tie.Need-returns-4
 returns-4 c =
@@ -30,11 +30,11 @@ returns-4 c =
     let b = n .before .before .before in
     let a = b .args in
     let s = now (a .s) in
-    let told = found-told s _ (a .from) _ _ (b .pre .1 .0) (n .pair-at .ensures) in
+    let told = found-told s _ (a .from) _ _ (b .pre .1 .0 .0) (n .pair-at .ensures) in
     let there = told .there (t .if2 .left) (o .if1 .left) ∙ ap (λ k. some (k - 1)) (sym (w .wide .ensures)) in
     let brace = told .brace (t .if2 .left) (o .if1 .left) (e .if3 .left) ∙ ap (λ k. some (k - 1)) (sym (c .wide2 .ensures)) in (
       (there, subst (λ k. bodyBehind s (k - 1) ≡ some (c .wide2 .result - 1)) (sym (w .wide .ensures)) brace),
-      (noted-kept (Told s) _ _ (b .pre .1 .0) (u .mark-used2 .ensures), b .pre .1 .1),
+      ((noted-kept (Told s) _ _ (b .pre .1 .0 .0) (u .mark-used2 .ensures), b .pre .1 .0 .1), b .pre .1 .1),
     )
 
 pub brackets-after-spec : {M : Type 1} → statement M

@@ -10,7 +10,7 @@ use Rattle.signatures.proofs.sought_after.Tie as tie
 
 near-body-requires : tie.Need-near-body-requires
 near-body-requires c κs =
-    let k = c .before .before .before in
+    let k = c .before .before .before .before in
     let m = k .before .before in
     let h = m .before in
     let b = h .before .before in
@@ -26,7 +26,13 @@ noted-list-requires c κs =
     let a = b .args in
     let near = h .ahead .ensures in
     let e = subst (Meets (now (a .s)) roundOpen roundClose (a .from) (h .ahead .result) 0) (k .met2 .given .1) (m .partner-before .ensures) in
-    (omega (arith, near, b .pre .0), omega (arith, near), e .1, e .0, b .pre .1)
+    (omega (arith, near, b .pre .0), omega (arith, near), e .1, e .0, b .pre .1 .0)
+
+returns-2 : tie.Need-returns-2
+returns-2 c =
+    let k = c .before .before .before .before in
+    let b = k .before .before .before .before .before in
+    (c .noted-list .ensures .0, (c .noted-list .ensures .1, b .pre .1 .1))
 
 pub sought-after-spec : {M : Type 1} → statement M
 sought-after-spec =
@@ -39,4 +45,4 @@ sought-after-spec =
     (λ c. search needs)
     noted-list-requires
     (λ c. search needs)
-    (λ c. search needs))
+    returns-2)

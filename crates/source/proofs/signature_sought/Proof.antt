@@ -55,7 +55,7 @@ add-inside c =
 
 brackets-after-requires : tie.Need-brackets-after-requires
 brackets-after-requires c κs =
-    let o = c .before .before .before in
+    let o = c .before .before .before .before in
     let f = o .before .before in
     let b = f .before .before in
     let a = b .args in
@@ -67,7 +67,7 @@ returns-2 : tie.Need-returns-2
 unfolding Barren
 returns-2 c =
     let l = c .before .before in
-    let o = l .before .before .before .before in
+    let o = l .before .before .before .before .before in
     let f = o .before .before in
     let b = f .before .before in
     let a = b .args in
@@ -83,7 +83,7 @@ block-at-requires : tie.Need-block-at-requires
 block-at-requires c κs =
     let x = c .before in
     let l = x .before .before in
-    let o = l .before .before .before .before in
+    let o = l .before .before .before .before .before in
     let f = o .before .before in
     let b = f .before .before in
     let a = b .args in
@@ -101,7 +101,7 @@ returns-3 c =
     let k = c .before .before .before in
     let x = k .before .before in
     let l = x .before .before in
-    let o = l .before .before .before .before in
+    let o = l .before .before .before .before .before in
     let f = o .before .before in
     let b = f .before .before in
     let a = b .args in
@@ -121,7 +121,7 @@ returns-4 c =
     let k = c .before .before .before in
     let x = k .before .before in
     let l = x .before .before in
-    let o = l .before .before .before .before in
+    let o = l .before .before .before .before .before in
     let f = o .before .before in
     let b = f .before .before in
     let a = b .args in

@@ -30,7 +30,7 @@ add-end : tie.Need-add-end
 add-end c =
     let g = c .before .before in
     let r = g .before .before in
-    let w = r .before .before .before .before .before .before .before in
+    let w = r .before .before .before .before .before .before .before .before in
     let b = w .before .before .before .before in
     let l : Closed (b .args .s .now) (w .word-end .result) (g .g2 .given .0 .0) =
     subst (Signed (b .args .s .now) (w .word-end .result)) (g .g2 .given .1) (r .signature-at .ensures .0) .0 in
@@ -40,7 +40,7 @@ found-at-requires : tie.Need-found-at-requires
 found-at-requires c κs =
     let g = c .before .before in
     let r = g .before .before in
-    let w = r .before .before .before .before .before .before .before in
+    let w = r .before .before .before .before .before .before .before .before in
     let b = w .before .before .before .before in
     (w .word-end .ensures .1, subst (Signed (b .args .s .now) (w .word-end .result)) (g .g2 .given .1) (r .signature-at .ensures .0) .0)
 
@@ -48,7 +48,7 @@ returns-3 : tie.Need-returns-3
 returns-3 c =
     let g = c .before in
     let r = g .before .before in
-    let n = r .before .before .before .before .before in
+    let n = r .before .before .before .before .before .before in
     let w = n .before .before in
     let p = w .before in
     let b = p .before .before .before in
@@ -60,7 +60,7 @@ returns-4 : tie.Need-returns-4
 returns-4 c =
     let g = c .before .before .before in
     let r = g .before .before in
-    let n = r .before .before .before .before .before in
+    let n = r .before .before .before .before .before .before in
     let w = n .before .before in
     let p = w .before in
     let b = p .before .before .before in

@@ -70,7 +70,7 @@ returns-4 c =
 
 measure-requires : tie.Need-measure-requires
 measure-requires c κs =
-    let i = c .before .before in
+    let i = c .before .before .before in
     let w = i .before in
     let b = w .before .before .before .before .before .before .before .before .before .before .before in
     (fn-inside (b .args .s .now) (b .args .self .at) (b .pre .0) _ (sym (w .word-at .ensures) ∙ not-false _ (i .if4 .left)), b .pre .1 .no-function, b .pre .1 .learned, b .pre .2)
@@ -78,13 +78,13 @@ measure-requires c κs =
 returns-5 : tie.Need-returns-5
 returns-5 c =
     let m = c .before .before .before in
-    let w = m .before .before .before .before in
+    let w = m .before .before .before .before .before in
     let k = w .before .before .before .before .before .before .before in
     let p = k .before in
     let b = p .before .before .before in
     let s = b .args .s .now in
     let at = b .args .self .at in
-    let word : isFn (byteBefore s at) (drop at s) ≡ true = sym (w .word-at .ensures) ∙ not-false _ (m .before .before .before .if4 .left) in
+    let word : isFn (byteBefore s at) (drop at s) ≡ true = sym (w .word-at .ensures) ∙ not-false _ (m .before .before .before .before .if4 .left) in
     let (r, v) = subst (Measures s (b .args .self)) (c .before .m .given .1) (m .measure .ensures .0) in (
       passes s (b .args .self) (b .pre .0) (b .pre .1) (p .span-at .result) (p .span-at .ensures) (k .count-after .result) (k .count-after .ensures .0)
           (sought-word (p .span-at .result .end - at) (b .args .self .resume - at) (byteBefore s at) (drop at s) (omega (arith, w .before .before .before .if2 .left)) (omega (arith, w .before .if3 .left)) word ∙ r .not-found)
@@ -95,13 +95,13 @@ returns-5 c =
 returns-6 : tie.Need-returns-6
 returns-6 c =
     let m = c .before .before .before in
-    let w = m .before .before .before .before in
+    let w = m .before .before .before .before .before in
     let k = w .before .before .before .before .before .before .before in
     let p = k .before in
     let b = p .before .before .before in
     let s = b .args .s .now in
     let at = b .args .self .at in
-    let word : isFn (byteBefore s at) (drop at s) ≡ true = sym (w .word-at .ensures) ∙ not-false _ (m .before .before .before .if4 .left) in
+    let word : isFn (byteBefore s at) (drop at s) ≡ true = sym (w .word-at .ensures) ∙ not-false _ (m .before .before .before .before .if4 .left) in
     let (r, v) = subst (Measures s (b .args .self)) (c .before .m2 .given .1) (m .measure .ensures .0) in (
       finds s (b .args .self) (b .pre .0) (b .pre .1) (p .span-at .result) (p .span-at .ensures) (k .count-after .result) (k .count-after .ensures .0)
           (c .before .m2 .given .0 .0) (c .before .m2 .given .0 .1 .0) r
