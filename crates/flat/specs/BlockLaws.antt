@@ -130,5 +130,5 @@ module _ (s : List ℕ) (from to : ℕ) (n : Counts) where
 
   pub reaches-later : (at : ℕ) (m : Counts) (r : Reached) → bodyFrom s from n ≡ bodyFrom s at m → Reaches s at to m r → Reaches s from to n r
   reaches-later at m (Brace p) e h = e ∙ h
-  reaches-later at m Ended e h = e ∙ h
+  reaches-later at m (Ended p) e h = e ∙ h
   reaches-later at m (Further k) e h = (e ∙ h .0, h .1)

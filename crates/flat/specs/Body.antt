@@ -31,7 +31,7 @@ bodyFrom s from n = bodyAt (n .angle) (n .opened) (n .closed) from (drop from s)
 -- what a search for a body meets: the brace, a ; that ends it, or counts with which it goes on
 abbrev pub Reaches : List ℕ → (from to : ℕ) → Counts → Reached → Type 0
 Reaches s from to n (Brace p) = bodyFrom s from n ≡ some p
-Reaches s from to n Ended = bodyFrom s from n ≡ none
+Reaches s from to n (Ended p) = bodyFrom s from n ≡ none
 Reaches s from to n (Further m) = (bodyFrom s from n ≡ bodyFrom s to m) × Counted m to
 
 -- how many brackets of each kind a block has

@@ -31,10 +31,11 @@ pub struct Counts {
     pub closed: usize,
 }
 
-// What a search for a body meets up to a place: the brace, a `;` that ends it, or nothing, with the counts that it has there.
+// What a search for a body meets up to a place: the brace, a `;` that ends it, with the place behind that, or nothing, with the counts that it has there.
+// Nothing rests on the place behind a `;` but time.
 pub enum Reached {
     Brace(usize),
-    Ended,
+    Ended(usize),
     Further(Counts),
 }
 
@@ -70,7 +71,7 @@ fn body_bytes(s: &[u8], from: usize, to: usize, n: Counts) -> Reached
             }
             b';' => {
                 if is_flat(angle, opened, closed) {
-                    return Reached::Ended;
+                    return Reached::Ended(at);
                 }
             }
             _ => {}
@@ -213,8 +214,8 @@ fn body_further(s: &[u8], from: usize, to: usize, n: Counts) -> Reached
             Reached::Brace(p) => {
                 return Reached::Brace(p);
             }
-            Reached::Ended => {
-                return Reached::Ended;
+            Reached::Ended(p) => {
+                return Reached::Ended(p);
             }
             Reached::Further(m) => {
                 at = stop;
@@ -234,7 +235,7 @@ pub fn body_before(s: &[u8], from: usize, to: usize, n: Counts) -> Reached
     let met = body_bytes(s, from, near, n);
     match met {
         Reached::Brace(p) => Reached::Brace(p),
-        Reached::Ended => Reached::Ended,
+        Reached::Ended(p) => Reached::Ended(p),
         Reached::Further(m) => body_further(s, near, to, m),
     }
 }

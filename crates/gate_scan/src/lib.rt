@@ -86,7 +86,7 @@ fn scan_text(
     done: usize,
     noted: &mut [u32; 4099],
     sums: &mut [u16; 36865],
-    kept: &mut [usize; 258],
+    kept: &mut [usize; 259],
 ) -> usize
     requires { ⌜
         (number < 1024)
@@ -94,14 +94,14 @@ fn scan_text(
         × (done ≤ 17179869184)
         × (length (now noted) ≡ 4099)
         × (length (now sums) ≡ 36865)
-        × (length (now kept) ≡ 258)
+        × (length (now kept) ≡ 259)
         ⌝ }
     ensures { λ r. ⌜
         (r ≡ done + length (functions (now (s .entry))))
         × (now (lent .exit) ≡ putRecords done (recordsFor number place (functions (now (s .entry)))) (now (lent .entry)))
         × (length (now (noted .exit)) ≡ 4099)
         × (length (now (sums .exit)) ≡ 36865)
-        × (length (now (kept .exit)) ≡ 258)
+        × (length (now (kept .exit)) ≡ 259)
         ⌝ }
 {
     windows::clear(noted);
@@ -135,7 +135,7 @@ fn scan_texts(tree: &[u8], work: &[u8], lent: &mut [u8]) -> usize
     let n = tree::file_count(tree);
     let mut noted = [0u32; 4099];
     let mut sums = [0u16; 36865];
-    let mut kept = [0usize; 258];
+    let mut kept = [0usize; 259];
     let mut file = 0;
     let mut done = 0;
     while file < n {

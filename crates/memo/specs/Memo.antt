@@ -1,8 +1,9 @@
 -- Searches for a body that are kept by what they have counted at one place. The list's first number is the place; the second tells nothing. Behind them
--- stand the angle brackets of 64 searches, the square brackets that they have seen opened, those closed, and their numbers.
+-- stand the angle brackets of 64 searches, the square brackets that they have seen opened, those closed, and their numbers. The last number tells nothing
+-- either.
 use Prim.Native.Nat.{ℕ, _+_, _-_, _≤_, _<_}
-use mathlib.Core.Path.{_≡_, ap, subst, sym, _∙_}
-use mathlib.Core.Logic.{_≢_, inl, inr}
+use mathlib.Core.Path.{_≡_, refl, ap, subst, sym, _∙_}
+use mathlib.Core.Logic.{_⊎_, _≢_, inl, inr, ⊎-elim}
 use mathlib.Core.List.{List}
 use mathlib.Core.Option.{Option, none, some}
 use native.Mathlib.Omega.{arith}
@@ -80,13 +81,13 @@ numberAt f i = getD f (194 + i) 0
 
 -- each search that is kept finds what its number tells
 pub record Recalls (s f : List ℕ) : Type 0 where
-  pub room : length f ≡ 258
+  pub room : length f ≡ 259
   pub inside : getD f 0 0 ≤ length s
   pub each : (i : ℕ) → i < 64 → Entry s (getD f 0 0) (countsAt f i) (numberAt f i)
 
 -- no search is kept
 pub record Forgotten (at : ℕ) (f : List ℕ) : Type 0 where
-  pub room : length f ≡ 258
+  pub room : length f ≡ 259
   pub place : getD f 0 0 ≡ at
   pub nothing : (i : ℕ) → i < 64 → numberAt f i ≡ 0
 
@@ -141,7 +142,7 @@ set-elsewhere f i n number l =
     }
 
 -- the search has the counts and the number
-pub set-there : (f : List ℕ) (i : ℕ) (n : Counts) (number : ℕ) → i < 64 → length f ≡ 258 → (countsAt (setEntry f i n number) i ≡ n) × (numberAt (setEntry f i n number) i ≡ number)
+pub set-there : (f : List ℕ) (i : ℕ) (n : Counts) (number : ℕ) → i < 64 → length f ≡ 259 → (countsAt (setEntry f i n number) i ≡ n) × (numberAt (setEntry f i n number) i ≡ number)
 set-there f i n number l h =
     let f₁ = set f (2 + i) (n .angle) in
     let f₂ = set f₁ (66 + i) (n .opened) in
@@ -185,32 +186,47 @@ meets-tells s f n number r (met i l e a o) =
 abbrev pub Keeps : Counts → (number : ℕ) → (f g : List ℕ) → Type 0
 Keeps n number f g = (s : List ℕ) → Recalls s f → Entry s (getD f 0 0) n number → Recalls s g
 
-pub keeps-there : (f : List ℕ) (i k : ℕ) (n : Counts) (number : ℕ) → i < 64 → Keeps n number f (setEntry (set f 1 k) i n number)
-keeps-there f i k n number l s r e =
-    let f₁ = set f 1 k in
-    let g = setEntry f₁ i n number in
-    let room : length f₁ ≡ 258 = length-set f 1 k ∙ r .room in
-    let apart = set-elsewhere f₁ i n number l in
-    let there = set-there f₁ i n number l room in
-    let place : getD g 0 0 ≡ getD f 0 0 = apart .place ∙ getD-set-other f 1 0 k 0 (λ z. omega (arith, z)) in
-    let stay : (j : ℕ) → j < 64 → (countsAt f₁ j ≡ countsAt f j) × (numberAt f₁ j ≡ numberAt f j) =
-    λ j m. (
-      same-counts _ _ _ _ _ _ (getD-set-other f 1 (2 + j) k 0 (λ z. omega (arith, z))) (getD-set-other f 1 (66 + j) k 0 (λ z. omega (arith, z)))
-          (getD-set-other f 1 (130 + j) k 0 (λ z. omega (arith, z))),
-      getD-set-other f 1 (194 + j) k 0 (λ z. omega (arith, z)),
-    ) in
+-- the numbers that tell nothing may change
+pub aside : (s f : List ℕ) (k v : ℕ) → (k ≡ 1) ⊎ (k ≡ 258) → Recalls s f → Recalls s (set f k v)
+aside s f k v o r =
+    let g = set f k v in
+    let place : getD g 0 0 ≡ getD f 0 0 = getD-set-other f k 0 v 0 (λ z. ⊎-elim (λ e. omega (arith, z, e)) (λ e. omega (arith, z, e)) o) in
+    let stay : (j : ℕ) → 2 ≤ j → j < 258 → getD g j 0 ≡ getD f j 0 = λ j l m. getD-set-other f k j v 0 (λ z. ⊎-elim (λ e. omega (arith, z, e, l)) (λ e. omega (arith, z, e, m)) o) in
     record {
-      room = apart .room ∙ room;
+      room = length-set f k v ∙ r .room;
       inside = omega (arith, place, r .inside);
       each = λ j m.
+          let counts : countsAt g j ≡ countsAt f j =
+          same-counts _ _ _ _ _ _ (stay (2 + j) (omega arith) (omega (arith, m))) (stay (66 + j) (omega arith) (omega (arith, m))) (stay (130 + j) (omega arith) (omega (arith, m))) in
           subst (λ p. Entry s p (countsAt g j) (numberAt g j)) (sym place)
+          (subst (λ x. Entry s (getD f 0 0) x (numberAt g j)) (sym counts) (subst (Entry s (getD f 0 0) (countsAt f j)) (sym (stay (194 + j) (omega arith) (omega (arith, m)))) (r .each j m)));
+    }
+
+pub keeps-there : (s f : List ℕ) (i : ℕ) (n : Counts) (number : ℕ) → i < 64 → Recalls s f → Entry s (getD f 0 0) n number → Recalls s (setEntry f i n number)
+keeps-there s f i n number l r e =
+    let g = setEntry f i n number in
+    let apart = set-elsewhere f i n number l in
+    let there = set-there f i n number l (r .room) in
+    record {
+      room = apart .room ∙ r .room;
+      inside = omega (arith, apart .place, r .inside);
+      each = λ j m.
+          subst (λ p. Entry s p (countsAt g j) (numberAt g j)) (sym (apart .place))
           (elim (whether (eqb j i)) [
             | inl q ↦ subst (λ x. Entry s (getD f 0 0) (countsAt g x) (numberAt g x)) (sym (eqb-true j i q))
                 (subst (λ x. Entry s (getD f 0 0) x (numberAt g i)) (sym (there .0)) (subst (Entry s (getD f 0 0) n) (sym (there .1)) e))
-            | inr d ↦ subst (λ x. Entry s (getD f 0 0) x (numberAt g j)) (sym (apart .counts j m (eqb-false j i d) ∙ stay j m .0))
-                (subst (Entry s (getD f 0 0) (countsAt f j)) (sym (apart .number j m (eqb-false j i d) ∙ stay j m .1)) (r .each j m))
+            | inr d ↦ subst (λ x. Entry s (getD f 0 0) x (numberAt g j)) (sym (apart .counts j m (eqb-false j i d)))
+                (subst (Entry s (getD f 0 0) (countsAt f j)) (sym (apart .number j m (eqb-false j i d))) (r .each j m))
           ]);
     }
+
+-- one search more, beside them
+pub keeps-aside : (f : List ℕ) (i k v : ℕ) (n : Counts) (number : ℕ) → i < 64 → Keeps n number f (setEntry (set (set f 1 k) 258 v) i n number)
+keeps-aside f i k v n number l s r e =
+    let f₁ = set f 1 k in
+    let r₁ = aside s f 1 k (inl refl) r in
+    let place = getD-set-other f₁ 258 0 v 0 (λ z. omega (arith, z)) ∙ getD-set-other f 1 0 k 0 (λ z. omega (arith, z)) in
+    keeps-there s (set f₁ 258 v) i n number l (aside s f₁ 258 v (inr refl) r₁) (subst (λ p. Entry s p n number) (sym place) e)
 
 -- what they have counted is at most the length of the text
 pub all-counted : (s f : List ℕ) (most : ℕ) → Recalls s f → length s ≤ most → (i : ℕ) → i < 64 → numberAt f i ≢ 0 → Counted (countsAt f i) most

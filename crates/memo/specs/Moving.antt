@@ -19,7 +19,7 @@ stays s f to i z =
     record { others = record { room = refl; place = refl; counts = λ j l d. refl; number = λ j l d. refl }; moved = no-entry s to (countsAt f i) (numberAt f i) z }
 
 -- one that goes on has other counts, and finds the same
-pub goes-on : (s f : List ℕ) (from to i : ℕ) (n : Counts) → i < 64 → length f ≡ 258 → Entry s from (countsAt f i) (numberAt f i) → bodyFrom s from (countsAt f i) ≡ bodyFrom s to n
+pub goes-on : (s f : List ℕ) (from to i : ℕ) (n : Counts) → i < 64 → length f ≡ 259 → Entry s from (countsAt f i) (numberAt f i) → bodyFrom s from (countsAt f i) ≡ bodyFrom s to n
     → Counted n to
     → Moves s to i f (setEntry f i n (numberAt f i))
 goes-on s f from to i n l h e same c =
@@ -32,7 +32,7 @@ goes-on s f from to i n l h e same c =
     }
 
 -- one that ends is given up
-pub given-up : (s f : List ℕ) (to i : ℕ) → i < 64 → length f ≡ 258 → Moves s to i f (set f (194 + i) 0)
+pub given-up : (s f : List ℕ) (to i : ℕ) → i < 64 → length f ≡ 259 → Moves s to i f (set f (194 + i) 0)
 given-up s f to i l h =
     let g = set f (194 + i) 0 in
     record {
@@ -50,7 +50,7 @@ given-up s f to i l h =
 
 -- the searches before an index have come to the place, the others not yet
 pub record Between (s : List ℕ) (from to i : ℕ) (f : List ℕ) : Type 0 where
-  pub room : length f ≡ 258
+  pub room : length f ≡ 259
   pub place : getD f 0 0 ≡ from
   pub there : (j : ℕ) → j < i → j < 64 → Entry s to (countsAt f j) (numberAt f j)
   pub here : (j : ℕ) → i ≤ j → j < 64 → Entry s from (countsAt f j) (numberAt f j)

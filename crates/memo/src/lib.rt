@@ -14,7 +14,7 @@ ghost use Rattle.chunks.specs.Table.{Summed};
 ghost use Rattle.memo.specs.Memo.{Entry, Keeps, Meets, Moves, Recalls, Sums, Tells, TellsPast, countsAt, Forgotten, numberAt, setEntry};
 
 // The searches that are kept. The array's first number is the place, its second tells which search is given up next; behind them stand for each search
-// its open angle brackets, the square brackets that it has seen opened and closed, and what it finds.
+// its open angle brackets, the square brackets that it has seen opened and closed, and what it finds; and last, how far they go.
 const MOST: usize = 64;
 
 // The chunk at a place, where it ends before another: what a search has counted behind it; or the search may end in it.
@@ -49,8 +49,8 @@ pub fn body_until(s: &[u8], t: &[u16; 36865], from: usize, to: usize, n: Counts)
                     Reached::Brace(p) => {
                         return Reached::Brace(p);
                     }
-                    Reached::Ended => {
-                        return Reached::Ended;
+                    Reached::Ended(p) => {
+                        return Reached::Ended(p);
                     }
                     Reached::Further(k) => {
                         at = stop;
@@ -64,8 +64,8 @@ pub fn body_until(s: &[u8], t: &[u16; 36865], from: usize, to: usize, n: Counts)
 }
 
 // A search with an index, by its counts and its number: 0 tells nothing, 1 that it finds none, a higher one that it finds the brace two places below it.
-fn put(f: &mut [usize; 258], i: usize, n: Counts, number: usize)
-    requires { ⌜ (length (now f) ≡ 258) × (i < 64) ⌝ }
+fn put(f: &mut [usize; 259], i: usize, n: Counts, number: usize)
+    requires { ⌜ (length (now f) ≡ 259) × (i < 64) ⌝ }
     ensures { λ _. ⌜ now (f .exit) ≡ setEntry (now (f .entry)) i n number ⌝ }
 {
     f[2 + i] = n.angle;
@@ -75,8 +75,8 @@ fn put(f: &mut [usize; 258], i: usize, n: Counts, number: usize)
 }
 
 // What the search with an index has counted.
-fn counts_of(f: &[usize; 258], i: usize) -> Counts
-    requires { ⌜ (length (now f) ≡ 258) × (i < 64) ⌝ }
+fn counts_of(f: &[usize; 259], i: usize) -> Counts
+    requires { ⌜ (length (now f) ≡ 259) × (i < 64) ⌝ }
     ensures { λ r. ⌜ r ≡ countsAt (now (f .entry)) i ⌝ }
 {
     Counts {
@@ -87,11 +87,12 @@ fn counts_of(f: &[usize; 258], i: usize) -> Counts
 }
 
 // No search is kept, and the place is another.
-pub fn forget(f: &mut [usize; 258], at: usize)
-    requires { ⌜ length (now f) ≡ 258 ⌝ }
+pub fn forget(f: &mut [usize; 259], at: usize)
+    requires { ⌜ length (now f) ≡ 259 ⌝ }
     ensures { λ _. ⌜ Forgotten at (now (f .exit)) ⌝ }
 {
     f[0] = at;
+    f[258] = at;
     let mut i: usize = 0;
     while i < MOST {
         f[194 + i] = 0;
@@ -118,12 +119,12 @@ fn move_on(
     to: usize,
     c: Chunk,
     i: usize,
-    f: &mut [usize; 258],
+    f: &mut [usize; 259],
 )
     requires { ⌜
         (from ≤ to)
         × (to ≤ length (now s))
-        × (length (now f) ≡ 258)
+        × (length (now f) ≡ 259)
         × (i < 64)
         × Entry (now s) from (countsAt (now f) i) (numberAt (now f) i)
         × Sums (now s) from to c
@@ -147,7 +148,7 @@ fn move_on(
 }
 
 // All searches come to a place that is at most a chunk further on.
-fn move_all(s: &[u8], t: &[u16; 36865], to: usize, f: &mut [usize; 258])
+fn move_all(s: &[u8], t: &[u16; 36865], to: usize, f: &mut [usize; 259])
     requires { ⌜
         (getD (now f) 0 0 ≤ to)
         × (to ≤ getD (now f) 0 0 + 4096)
@@ -167,26 +168,8 @@ fn move_all(s: &[u8], t: &[u16; 36865], to: usize, f: &mut [usize; 258])
     f[0] = to;
 }
 
-// Whether a search may come to a place: one that finds a brace before it ends there. Nothing rests on the answer but time.
-fn is_alive(f: &[usize; 258], to: usize) -> bool
-    requires { ⌜ length (now f) ≡ 258 ⌝ }
-{
-    let mut i: usize = 0;
-    while i < MOST {
-        let number = f[194 + i];
-        if number == 1 {
-            return true;
-        }
-        if to < number {
-            return true;
-        }
-        i += 1;
-    }
-    false
-}
-
 // All searches come to a place.
-fn advance(s: &[u8], t: &[u16; 36865], to: usize, f: &mut [usize; 258])
+fn advance(s: &[u8], t: &[u16; 36865], to: usize, f: &mut [usize; 259])
     requires { ⌜
         (getD (now f) 0 0 ≤ to)
         × (to ≤ length (now s))
@@ -197,10 +180,6 @@ fn advance(s: &[u8], t: &[u16; 36865], to: usize, f: &mut [usize; 258])
 {
     let mut at = f[0];
     while at < to {
-        if !is_alive(f, to) {
-            forget(f, to);
-            return;
-        }
         at = flat::ahead(at, chunks::SIZE, to);
         move_all(s, t, at, f);
     }
@@ -218,9 +197,9 @@ fn is_same(a: Counts, b: Counts) -> bool
 }
 
 // The number of a search that is kept with the same depths, 0 where none is.
-fn find(f: &[usize; 258], n: Counts) -> usize
+fn find(f: &[usize; 259], n: Counts) -> usize
     requires { ⌜
-        (length (now f) ≡ 258)
+        (length (now f) ≡ 259)
         × Counted n 9223372036854775807
         × ((i : ℕ) → i < 64 → numberAt (now f) i ≢ 0 → Counted (countsAt (now f) i) 9223372036854775807)
         ⌝ }
@@ -240,8 +219,8 @@ fn find(f: &[usize; 258], n: Counts) -> usize
 }
 
 // What a search finds that has so much counted at a place; 0 where that is not known. The place is kept. Searches that are kept for a place further on
-// are given up.
-pub fn recall(s: &[u8], t: &[u16; 36865], at: usize, n: Counts, f: &mut [usize; 258]) -> usize
+// are given up, and all of them where none goes as far as the place: where searches do not overlap there is nothing to find, and nothing is read twice.
+pub fn recall(s: &[u8], t: &[u16; 36865], at: usize, n: Counts, f: &mut [usize; 259]) -> usize
     requires { ⌜ (at ≤ length (now s)) × Counted n at × Recalls (now s) (now f) × Summed (now s) (now t) ⌝ }
     ensures { λ r. ⌜
         Tells r (bodyFrom (now (s .entry)) at n)
@@ -253,17 +232,22 @@ pub fn recall(s: &[u8], t: &[u16; 36865], at: usize, n: Counts, f: &mut [usize; 
         forget(f, at);
         return 0;
     }
+    if f[258] <= at {
+        forget(f, at);
+        return 0;
+    }
     advance(s, t, at, f);
     find(f, n)
 }
 
-// A search is kept in place of the one that was kept first.
-pub fn keep(f: &mut [usize; 258], n: Counts, number: usize)
-    requires { ⌜ length (now f) ≡ 258 ⌝ }
+// A search is kept in place of the one that was kept first. It goes as far as `end`: nothing rests on that but time.
+pub fn keep(f: &mut [usize; 259], n: Counts, number: usize, end: usize)
+    requires { ⌜ length (now f) ≡ 259 ⌝ }
     ensures { λ _. ⌜ Keeps n number (now (f .entry)) (now (f .exit)) ⌝ }
 {
     let i = f[1] % MOST;
     f[1] = i + 1;
+    f[258] = chunks::most(f[258], end);
     put(f, i, n, number);
 }
 
@@ -274,7 +258,7 @@ const STEP: usize = 64;
 const REACH: usize = 512;
 
 // Where a search that begins at a place is looked up: at the place that is kept, if that is near.
-pub fn mark_after(f: &[usize; 258], from: usize, end: usize) -> usize
+pub fn mark_after(f: &[usize; 259], from: usize, end: usize) -> usize
     requires { ⌜ from ≤ end ⌝ }
     ensures { λ r. ⌜ (from ≤ r) × (r ≤ end) ⌝ }
 {

@@ -89,7 +89,7 @@ fn far_body(s: &[u8], t: &[u16; 36865], closed: usize, from: usize, n: Counts) -
     let met = memo::body_until(s, t, from, s.len(), n);
     match met {
         Reached::Brace(body) => Sought::Both(closed, body),
-        Reached::Ended => Sought::Broken,
+        Reached::Ended(_) => Sought::Broken,
         Reached::Further(_) => Sought::Broken,
     }
 }
@@ -202,6 +202,12 @@ fn noted_body(
     far_body(s, t, closed, near, n)
 }
 
+// What follows a `(`, and how far the search for the body went, at most: nothing rests on that but time.
+struct Went {
+    sought: Sought,
+    end: usize,
+}
+
 // What follows a `(` before `from` whose list ends at `closed`. No body is met up to the place `at`, where so much is counted. It is sought nearby first.
 fn further_body(
     s: &[u8],
@@ -211,7 +217,7 @@ fn further_body(
     n: Counts,
     m: &mut [u32; 4099],
     t: &mut [u16; 36865],
-) -> Sought
+) -> Went
     requires { ⌜
         (from ≤ at)
         × (at ≤ length (now s))
@@ -220,14 +226,23 @@ fn further_body(
         × (bodyBehind (now s) closed ≡ bodyFrom (now s) at n)
         × Lent (now s) (now m) (now t)
         ⌝ }
-    ensures { λ r. ⌜ Begins (now (s .entry)) from r × Lent (now (s .entry)) (now (m .exit)) (now (t .exit)) ⌝ }
+    ensures { λ r. ⌜ Begins (now (s .entry)) from (r .sought) × Lent (now (s .entry)) (now (m .exit)) (now (t .exit)) ⌝ }
 {
     let near = flat::ahead(at, NEAR, s.len());
     let met = flat::body_before(s, at, near, n);
     match met {
-        Reached::Brace(body) => Sought::Both(closed, body),
-        Reached::Ended => Sought::Broken,
-        Reached::Further(k) => noted_body(s, from, closed, near, k, m, t),
+        Reached::Brace(body) => Went {
+            sought: Sought::Both(closed, body),
+            end: body,
+        },
+        Reached::Ended(end) => Went {
+            sought: Sought::Broken,
+            end,
+        },
+        Reached::Further(k) => Went {
+            sought: noted_body(s, from, closed, near, k, m, t),
+            end: s.len(),
+        },
     }
 }
 
@@ -252,7 +267,7 @@ fn marked_body(
     n: Counts,
     m: &mut [u32; 4099],
     t: &mut [u16; 36865],
-    f: &mut [usize; 258],
+    f: &mut [usize; 259],
 ) -> Sought
     requires { ⌜
         (from ≤ mark)
@@ -271,9 +286,10 @@ fn marked_body(
     if 1 < known {
         return Sought::Both(closed, known - 2);
     }
-    let r = further_body(s, from, closed, mark, n, m, t);
-    memo::keep(f, n, number_of(r));
-    r
+    let went = further_body(s, from, closed, mark, n, m, t);
+    let sought = went.sought;
+    memo::keep(f, n, number_of(sought), went.end);
+    sought
 }
 
 // What follows a `(` before `from` whose list ends at `closed`. The body is sought up to a place at which searches are looked up.
@@ -283,7 +299,7 @@ fn near_body(
     closed: usize,
     m: &mut [u32; 4099],
     t: &mut [u16; 36865],
-    f: &mut [usize; 258],
+    f: &mut [usize; 259],
 ) -> Sought
     requires { ⌜ (soughtFrom (now s) from 0 ≡ some closed) × Lends (now s) (now m) (now t) (now f) ⌝ }
     ensures { λ r. ⌜ Begins (now (s .entry)) from r × Lends (now (s .entry)) (now (m .exit)) (now (t .exit)) (now (f .exit)) ⌝ }
@@ -293,7 +309,7 @@ fn near_body(
     let met = flat::body_before(s, behind, mark, nothing());
     match met {
         Reached::Brace(body) => Sought::Both(closed, body),
-        Reached::Ended => Sought::Broken,
+        Reached::Ended(_) => Sought::Broken,
         Reached::Further(n) => marked_body(s, from, closed, mark, n, m, t, f),
     }
 }
@@ -304,7 +320,7 @@ fn sought_after(
     from: usize,
     m: &mut [u32; 4099],
     t: &mut [u16; 36865],
-    f: &mut [usize; 258],
+    f: &mut [usize; 259],
 ) -> Sought
     requires { ⌜ (from ≤ length (now s)) × Lends (now s) (now m) (now t) (now f) ⌝ }
     ensures { λ r. ⌜ Begins (now (s .entry)) from r × Lends (now (s .entry)) (now (m .exit)) (now (t .exit)) (now (f .exit)) ⌝ }
@@ -324,7 +340,7 @@ pub fn brackets_after(
     from: usize,
     m: &mut [u32; 4099],
     t: &mut [u16; 36865],
-    f: &mut [usize; 258],
+    f: &mut [usize; 259],
 ) -> Sought
     requires { ⌜ (from ≤ length (now s)) × Lends (now s) (now m) (now t) (now f) ⌝ }
     ensures { λ r. ⌜ Begins (now (s .entry)) from r × Lends (now (s .entry)) (now (m .exit)) (now (t .exit)) (now (f .exit)) ⌝ }

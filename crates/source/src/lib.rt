@@ -170,7 +170,7 @@ fn signature_sought(
     v: Learnt,
     noted: &mut [u32; 4099],
     sums: &mut [u16; 36865],
-    kept: &mut [usize; 258],
+    kept: &mut [usize; 259],
 ) -> Signature
     requires { ⌜ Learned (now s) v × Lends (now s) (now noted) (now sums) (now kept) ⌝ }
     ensures { λ r. ⌜ Signed (now (s .entry)) to r × Lends (now (s .entry)) (now (noted .exit)) (now (sums .exit)) (now (kept .exit)) ⌝ }
@@ -207,7 +207,7 @@ fn signature_at(
     v: Learnt,
     noted: &mut [u32; 4099],
     sums: &mut [u16; 36865],
-    kept: &mut [usize; 258],
+    kept: &mut [usize; 259],
 ) -> Signature
     requires { ⌜ Learned (now s) v × Lends (now s) (now noted) (now sums) (now kept) ⌝ }
     ensures { λ r. ⌜ Signed (now (s .entry)) to r × Lends (now (s .entry)) (now (noted .exit)) (now (sums .exit)) (now (kept .exit)) ⌝ }
@@ -271,7 +271,7 @@ impl Cursor {
         s: &[u8],
         noted: &mut [u32; 4099],
         sums: &mut [u16; 36865],
-        kept: &mut [usize; 258],
+        kept: &mut [usize; 259],
     ) -> Measure
         requires { ⌜
             (self .at + 2 ≤ length (now s))
@@ -354,7 +354,7 @@ impl Cursor {
         s: &[u8],
         noted: &mut [u32; 4099],
         sums: &mut [u16; 36865],
-        kept: &mut [usize; 258],
+        kept: &mut [usize; 259],
     ) -> Turn
         requires { ⌜ (self .at < length (now s)) × Ready (now s) self × Lends (now s) (now noted) (now sums) (now kept) ⌝ }
         ensures { λ r. ⌜ Turned (now (s .entry)) self r × Lends (now (s .entry)) (now (noted .exit)) (now (sums .exit)) (now (kept .exit)) ⌝ }
@@ -404,7 +404,7 @@ impl Cursor {
         s: &[u8],
         noted: &mut [u32; 4099],
         sums: &mut [u16; 36865],
-        kept: &mut [usize; 258],
+        kept: &mut [usize; 259],
     ) -> Step
         requires { ⌜ Ready (now s) self × Lends (now s) (now noted) (now sums) (now kept) ⌝ }
         ensures { λ r. ⌜ Stepped (now (s .entry)) self r × Lends (now (s .entry)) (now (noted .exit)) (now (sums .exit)) (now (kept .exit)) ⌝ }

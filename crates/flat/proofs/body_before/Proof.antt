@@ -12,7 +12,7 @@ body-further-requires c κs =
     let o = c .before .before .before in
     let b = o .before .before .before in
     let a = b .args in
-    let e = subst (Reaches (a .s .now) (a .from) (o .before .ahead .result) (a .n)) (c .before .met2 .given .1) (o .body-bytes .ensures) in
+    let e = subst (Reaches (a .s .now) (a .from) (o .before .ahead .result) (a .n)) (c .before .met3 .given .1) (o .body-bytes .ensures) in
     (omega (arith, o .before .ahead .ensures), b .pre .1, e .1)
 
 returns : tie.Need-returns
@@ -23,16 +23,16 @@ returns c =
 
 returns-2 : tie.Need-returns-2
 returns-2 c =
-    let o = c .before .before in
+    let o = c .before .before .before in
     let a = o .before .before .before .args in
-    subst (Reaches (a .s .now) (a .from) (o .before .ahead .result) (a .n)) (c .enum-told .given .1) (o .body-bytes .ensures)
+    subst (Reaches (a .s .now) (a .from) (o .before .ahead .result) (a .n)) (c .before .met2 .given .1) (o .body-bytes .ensures)
 
 returns-3 : tie.Need-returns-3
 returns-3 c =
     let o = c .before .before .before .before in
     let a = o .before .before .before .args in
     let near = o .before .ahead .result in
-    let e = subst (Reaches (a .s .now) (a .from) near (a .n)) (c .before .before .met2 .given .1) (o .body-bytes .ensures) in
+    let e = subst (Reaches (a .s .now) (a .from) near (a .n)) (c .before .before .met3 .given .1) (o .body-bytes .ensures) in
     reaches-later (a .s .now) (a .from) (a .to) (a .n) near _ (c .body-further .result) (e .0) (c .body-further .ensures)
 
 pub body-before-spec : {M : Type 1} → statement M

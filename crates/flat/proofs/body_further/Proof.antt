@@ -39,11 +39,11 @@ returns c =
 
 returns-2 : tie.Need-returns-2 Inv-loop μ-loop
 returns-2 c =
-    let o = c .before .before in
+    let o = c .before .before .before in
     let q = o .before .before .body-blocks in
     let l = o .before .before .before .before in
     let a = l .before .before .args in
-    let r = subst (Reaches (a .s .now) (q .result .at) (o .before .ahead .result) (q .result .counts)) (c .enum-told .given .1) (o .body-bytes .ensures) in
+    let r = subst (Reaches (a .s .now) (q .result .at) (o .before .ahead .result) (q .result .counts)) (c .before .met2 .given .1) (o .body-bytes .ensures) in
     l .loop .inv .same ∙ q .ensures .same ∙ r
 
 loop-less : tie.Need-loop-less Inv-loop μ-loop
@@ -58,7 +58,7 @@ loop-again c =
     let h = o .before .ahead in
     let l = o .before .before .before .before in
     let a = l .before .before .args in
-    let r = subst (Reaches (a .s .now) (q .result .at) (h .result) (q .result .counts)) (c .before .met2 .given .1) (o .body-bytes .ensures) in
+    let r = subst (Reaches (a .s .now) (q .result .at) (h .result) (q .result .counts)) (c .before .met3 .given .1) (o .body-bytes .ensures) in
     halts-further (a .s .now) (a .from) (a .to) (a .n) (q .result) (h .result) _ (halts-then (a .s .now) (a .from) (a .to) (a .n) _ (q .result) (l .loop .inv) (q .ensures)) (omega (arith, h .ensures, q .ensures .before)) (omega (arith, h .ensures)) r
 
 returns-3 : tie.Need-returns-3 Inv-loop μ-loop

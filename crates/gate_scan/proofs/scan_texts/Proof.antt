@@ -32,7 +32,7 @@ Inv-loop tree work lent₀ n noted₀ sums₀ kept₀ k₀ done₀ lent noted su
     × (putRecords done (map recordBytes (rest tree n k)) lent ≡ putRecords 0 (map recordBytes (records tree)) lent₀)
     × (length noted ≡ 4099)
     × (length sums ≡ 36865)
-    × (length kept ≡ 258)
+    × (length kept ≡ 259)
 
 abbrev μ-loop : tie.MeasureT-loop
 μ-loop tree work lent₀ n noted₀ sums₀ kept₀ k₀ done₀ lent noted sums kept k done = n - k
@@ -64,7 +64,7 @@ loop-holds c =
     let e : n - 0 ≡ fileCount tree = omega (arith, c .file-count .ensures) in
     let all : rest tree n 0 ≡ recordsOfFiles (sourcesFrom tree (fileCount tree) 0 4) = ap (λ m. recordsOfFiles (sourcesFrom tree m 0 4)) e in
     let same = ap (λ rs. putRecords 0 (map recordBytes rs) (now (s .args .lent))) all in
-    (omega arith, refl, omega arith, omega (arith, ap length all), same, length-replicate {A = ℕ} 4099 0, length-replicate {A = ℕ} 36865 0, length-replicate {A = ℕ} 258 0)
+    (omega arith, refl, omega arith, omega (arith, ap length all), same, length-replicate {A = ℕ} 4099 0, length-replicate {A = ℕ} 36865 0, length-replicate {A = ℕ} 259 0)
 
 text-span-requires : tie.Need-text-span-requires Inv-loop μ-loop
 text-span-requires c κs =

@@ -3,9 +3,8 @@ use Prim.Native.Nat.{_-_, _≤_}
 use mathlib.Core.Path.{_≡_, refl}
 use native.Mathlib.Omega.{arith}
 use borrow.Author.Needs.{needs}
-use denote.Ref.{now}
 use lib.ListN.{getD}
-use Rattle.memo.specs.Memo.{Recalls, recalls-nothing}
+use Rattle.memo.specs.Memo.{Recalls}
 use Rattle.memo.proofs.advance.Statement.{statement}
 use Rattle.memo.proofs.advance.Tie as tie
 
@@ -18,25 +17,13 @@ abbrev μ-loop : tie.MeasureT-loop
 loop-holds : tie.Need-loop-holds Inv-loop μ-loop
 loop-holds c = let b = c .before .before in (refl, b .pre .0, b .pre .2)
 
-is-alive-requires : tie.Need-is-alive-requires Inv-loop μ-loop
-is-alive-requires c κs = c .before .before .loop .inv .2 .room
-
-forget-requires : tie.Need-forget-requires Inv-loop μ-loop
-forget-requires c κs = let l = c .before .before .before .before .before in l .loop .inv .2 .room
-
-returns : tie.Need-returns Inv-loop μ-loop
-returns c =
-    let l = c .before .before .before .before .before .before in
-    let b = l .before .before .before in
-    (c .forget .ensures .place, recalls-nothing (now (b .args .s)) _ (b .args .to) (b .pre .1) (c .forget .ensures))
-
 ahead-requires : tie.Need-ahead-requires Inv-loop μ-loop
-ahead-requires c κs = let l = c .before .before .before .before in l .loop .inv .1
+ahead-requires c κs = c .before .loop .inv .1
 
 move-all-requires : tie.Need-move-all-requires Inv-loop μ-loop
 move-all-requires c κs =
     let h = c .before in
-    let l = h .before .before .before .before .before in
+    let l = h .before .before in
     let b = l .before .before .before in
     let i = l .loop .inv in
     (omega (arith, i .0, i .1, h .ahead .ensures), omega (arith, i .0, h .ahead .ensures), omega (arith, b .pre .1, h .ahead .ensures), i .2, b .pre .3)
@@ -44,15 +31,15 @@ move-all-requires c κs =
 loop-less : tie.Need-loop-less Inv-loop μ-loop
 loop-less c =
     let h = c .before .before in
-    omega (arith, h .ahead .ensures, h .before .before .before .before .loop-test .taken)
+    omega (arith, h .ahead .ensures, h .before .loop-test .taken)
 
 loop-again : tie.Need-loop-again Inv-loop μ-loop
 loop-again c =
     let h = c .before .before in
     (c .move-all .ensures .0, omega (arith, h .ahead .ensures), c .move-all .ensures .1)
 
-returns-2 : tie.Need-returns-2 Inv-loop μ-loop
-returns-2 c =
+returns : tie.Need-returns Inv-loop μ-loop
+returns c =
     let l = c .before in
     (omega (arith, l .loop .inv .0, l .loop .inv .1, c .loop-test .left), l .loop .inv .2)
 
@@ -64,11 +51,8 @@ advance-spec =
     μ-loop
     (λ c. search needs)
     loop-holds
-    is-alive-requires
-    forget-requires
-    returns
     ahead-requires
     move-all-requires
     loop-less
     loop-again
-    returns-2)
+    returns)

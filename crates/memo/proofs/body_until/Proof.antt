@@ -55,10 +55,11 @@ returns c =
 
 returns-2 : tie.Need-returns-2 Inv-loop μ-loop
 returns-2 c =
-    let p = c .before .before in
+    let k = c .before in
+    let p = k .before .before in
     let h = p .before in
     let l = h .before .before .before .before .before in
-    let e = subst (Reaches (now (l .before .before .args .s)) (l .loop .at) (h .edge-after .result) (l .loop .counts)) (c .enum-told2 .given .1) (p .body-before .ensures) in
+    let e = subst (Reaches (now (l .before .before .args .s)) (l .loop .at) (h .edge-after .result) (l .loop .counts)) (k .met2 .given .1) (p .body-before .ensures) in
     l .loop .inv .2 ∙ e
 
 loop-again-2 : tie.Need-loop-again-2 Inv-loop μ-loop
@@ -67,7 +68,7 @@ loop-again-2 c =
     let p = k .before .before in
     let h = p .before in
     let l = h .before .before .before .before .before in
-    let e = subst (Reaches (now (l .before .before .args .s)) (l .loop .at) (h .edge-after .result) (l .loop .counts)) (k .met2 .given .1) (p .body-before .ensures) in
+    let e = subst (Reaches (now (l .before .before .args .s)) (l .loop .at) (h .edge-after .result) (l .loop .counts)) (k .met3 .given .1) (p .body-before .ensures) in
     (h .edge-after .ensures .1, e .1, l .loop .inv .2 ∙ e .0)
 
 returns-3 : tie.Need-returns-3 Inv-loop μ-loop

@@ -15,7 +15,7 @@ use Rattle.memo.proofs.forget.Statement.{statement}
 use Rattle.memo.proofs.forget.Tie as tie
 
 abbrev Inv-loop : tie.InvT-loop
-Inv-loop f₀ at i₀ f i = (i ≤ 64) × (length f ≡ 258) × (getD f 0 0 ≡ at) × ((j : ℕ) → j < i → numberAt f j ≡ 0)
+Inv-loop f₀ at i₀ f i = (i ≤ 64) × (length f ≡ 259) × (getD f 0 0 ≡ at) × ((j : ℕ) → j < i → numberAt f j ≡ 0)
 
 abbrev μ-loop : tie.MeasureT-loop
 μ-loop f₀ at i₀ f i = 64 - i
@@ -24,7 +24,12 @@ loop-holds : tie.Need-loop-holds Inv-loop μ-loop
 loop-holds c =
     let f = now (c .args .f) in
     let at = c .args .at in
-    (omega arith, length-set f 0 at ∙ c .pre, getD-set-same f 0 at 0 (omega (arith, c .pre)), λ j l. absurd (omega (arith, l)))
+    let f₁ = set f 0 at in (
+      omega arith,
+      length-set f₁ 258 at ∙ length-set f 0 at ∙ c .pre,
+      getD-set-other f₁ 258 0 at 0 (λ e. omega (arith, e)) ∙ getD-set-same f 0 at 0 (omega (arith, c .pre)),
+      λ j l. absurd (omega (arith, l)),
+    )
 
 loop-again : tie.Need-loop-again Inv-loop μ-loop
 loop-again c =
@@ -52,6 +57,7 @@ forget-spec =
     (tie.spec
     Inv-loop
     μ-loop
+    (λ c. search needs)
     (λ c. search needs)
     loop-holds
     (λ c. omega arith)

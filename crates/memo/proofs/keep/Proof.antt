@@ -1,13 +1,23 @@
 -- `memo::keep` meets its contract: the search is put at an index, and the others stay.
-use mathlib.Core.Path.{subst, sym}
+use mathlib.Core.Path.{subst, sym, _∙_}
 use native.Mathlib.Omega.{arith}
 use borrow.Author.Needs.{needs}
-use Rattle.memo.specs.Memo.{Recalls, keeps-there}
+use denote.Ref.{now}
+use lib.ListN.{set, length-set}
+use Rattle.memo.specs.Memo.{Recalls, keeps-aside}
 use Rattle.memo.proofs.keep.Statement.{statement}
 use Rattle.memo.proofs.keep.Tie as tie
 
+put-requires : tie.Need-put-requires
+put-requires c κs =
+    let b = c .before .before .before .before in
+    let f = now (b .args .f) in
+    (length-set (set f 1 _) 258 _ ∙ length-set f 1 _ ∙ b .pre, omega arith)
+
 returns : tie.Need-returns
-returns c s r e = subst (Recalls s) (sym (c .put .ensures)) (keeps-there _ _ _ _ _ (omega arith) s r e)
+returns c s r e = subst (Recalls s) (sym (c .put .ensures)) (keeps-aside _ _ _ _ _ _ (omega arith) s r e)
 
 pub keep-spec : {M : Type 1} → statement M
-keep-spec = tie.close (tie.spec (λ c. search needs) (λ c. search needs) (λ c. search needs) (λ c κs. search needs) returns)
+keep-spec =
+    tie.close
+    (tie.spec (λ c. search needs) (λ c. search needs) (λ c. search needs) (λ c. search needs) (λ c κs. search needs) (λ c. search needs) put-requires returns)

@@ -17,10 +17,16 @@ returns c =
     let a = b .args in
     (tells-nothing _, c .forget .ensures .place, recalls-nothing (now (a .s)) _ (a .at) (b .pre .0) (c .forget .ensures))
 
+returns-2 : tie.Need-returns-2
+returns-2 c =
+    let b = c .before .before .before .before .before .before .before in
+    let a = b .args in
+    (tells-nothing _, c .forget2 .ensures .place, recalls-nothing (now (a .s)) _ (a .at) (b .pre .0) (c .forget2 .ensures))
+
 find-requires : tie.Need-find-requires
 find-requires c κs =
     let v = c .before in
-    let b = v .before .before .before .before .before in
+    let b = v .before .before .before .before .before .before .before in
     let a = b .args in
     let r = v .advance .ensures .1 in
     let most : length (now (a .s)) ≤ 9223372036854775807 = omega arith in (
@@ -29,14 +35,25 @@ find-requires c κs =
       all-counted _ _ 9223372036854775807 r most,
     )
 
-returns-2 : tie.Need-returns-2
-returns-2 c =
+returns-3 : tie.Need-returns-3
+returns-3 c =
     let v = c .before .before in
-    let b = v .before .before .before .before .before in
+    let b = v .before .before .before .before .before .before .before in
     let a = b .args in
     let e = v .advance .ensures in
     let told = meets-tells (now (a .s)) _ (a .n) _ (e .1) (c .find .ensures) in
     (subst (λ p. Tells (c .find .result) (bodyFrom (now (a .s)) p (a .n))) (e .0) told, e .0, e .1)
 
 pub recall-spec : {M : Type 1} → statement M
-recall-spec = tie.close (tie.spec (λ c. search needs) (λ c κs. search needs) returns (λ c κs. search needs) find-requires returns-2)
+recall-spec =
+    tie.close
+    (tie.spec
+    (λ c. search needs)
+    (λ c κs. search needs)
+    returns
+    (λ c. search needs)
+    (λ c κs. search needs)
+    returns-2
+    (λ c κs. search needs)
+    find-requires
+    returns-3)

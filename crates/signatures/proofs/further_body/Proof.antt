@@ -15,7 +15,7 @@ noted-body-requires c κs =
     let h = m .before in
     let b = h .before .before in
     let a = b .args in
-    let e = subst (Reaches (now (a .s)) (a .at) (h .ahead .result) (a .n)) (k .met2 .given .1) (m .body-before .ensures) in
+    let e = subst (Reaches (now (a .s)) (a .at) (h .ahead .result) (a .n)) (k .met3 .given .1) (m .body-before .ensures) in
     (omega (arith, h .ahead .ensures, b .pre .0, b .pre .1), omega (arith, h .ahead .ensures), e .1, b .pre .3, b .pre .4 ∙ e .0, b .pre .5)
 
 returns : tie.Need-returns
@@ -29,11 +29,12 @@ returns c =
 
 returns-2 : tie.Need-returns-2
 returns-2 c =
-    let m = c .before .before in
+    let k = c .before in
+    let m = k .before .before in
     let h = m .before in
     let b = h .before .before in
     let a = b .args in
-    let e = subst (Reaches (now (a .s)) (a .at) (h .ahead .result) (a .n)) (c .enum-told .given .1) (m .body-before .ensures) in
+    let e = subst (Reaches (now (a .s)) (a .at) (h .ahead .result) (a .n)) (k .met2 .given .1) (m .body-before .ensures) in
     (no-brace (a .closed) (b .pre .3) (b .pre .4 ∙ e), b .pre .5)
 
 pub further-body-spec : {M : Type 1} → statement M

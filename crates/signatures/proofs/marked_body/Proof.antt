@@ -27,7 +27,7 @@ number-of-requires c κs =
     let h = c .before in
     let b = h .before .before .before .before .before .before .before .before .before in
     let a = b .args in
-    omega (arith, number-most (now (a .s)) (a .from) (h .further-body .result) (h .further-body .ensures .0), b .good .0)
+    omega (arith, number-most (now (a .s)) (a .from) (h .further-body .result .sought) (h .further-body .ensures .0), b .good .0)
 
 returns-3 : tie.Need-returns-3
 returns-3 c =
@@ -37,7 +37,7 @@ returns-3 c =
     let b = k .before .before .before .before in
     let a = b .args in
     let s = now (a .s) in
-    let told = begins-tells s (a .from) (a .closed) (h .further-body .result) (b .pre .3) (h .further-body .ensures .0) in
+    let told = begins-tells s (a .from) (a .closed) (h .further-body .result .sought) (b .pre .3) (h .further-body .ensures .0) in
     let tells = subst (Tells (u .number-of .result)) (b .pre .4) (subst (λ i. Tells i (bodyBehind s (a .closed))) (sym (u .number-of .ensures)) told) in
     let entry : Entry s (a .mark) (a .n) (u .number-of .result) = record { counted = λ _. b .pre .2; tells = tells } in
     let kept = subst (λ p. Entry s p (a .n) (u .number-of .result)) (sym (k .recall .ensures .1)) entry in
