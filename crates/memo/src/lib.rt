@@ -240,12 +240,27 @@ pub fn recall(s: &[u8], t: &[u16; 36865], at: usize, n: Counts, f: &mut [usize; 
     find(f, n)
 }
 
-// A search is kept in place of the one that was kept first. It goes as far as `end`: nothing rests on that but time.
+// Where the next search is kept: at an index that keeps none, or that of the search whose turn it is.
+fn free_index(f: &[usize; 259]) -> usize
+    requires { ⌜ length (now f) ≡ 259 ⌝ }
+    ensures { λ r. ⌜ r < 64 ⌝ }
+{
+    let mut i: usize = 0;
+    while i < MOST {
+        if f[194 + i] == 0 {
+            return i;
+        }
+        i += 1;
+    }
+    f[1] % MOST
+}
+
+// A search is kept, in place of another where all indices keep one. It goes as far as `end`: nothing rests on that but time.
 pub fn keep(f: &mut [usize; 259], n: Counts, number: usize, end: usize)
     requires { ⌜ length (now f) ≡ 259 ⌝ }
     ensures { λ _. ⌜ Keeps n number (now (f .entry)) (now (f .exit)) ⌝ }
 {
-    let i = f[1] % MOST;
+    let i = free_index(f);
     f[1] = i + 1;
     f[258] = chunks::most(f[258], end);
     put(f, i, n, number);
