@@ -33,7 +33,13 @@ pub record Knows (opening closing : ℕ) (s : List ℕ) (u : Unclosed) : Type 0 
   pub none-there : partner opening closing (u .depth) (u .at) (drop (u .at) s) ≡ none
   pub inside : u .at ≤ length s
 
+-- a brace before a place has no partner; 0 tells nothing
+abbrev pub Open : List ℕ → (from : ℕ) → Type 0
+Open s from = from ≢ 0 → partner braceOpen braceClose 0 from (drop from s) ≡ none
+
 -- what was learnt of the braces of a text
 pub record Learned (s : List ℕ) (l : Learnt) : Type 0 where
   pub no-opening : Absent braceOpen s (l .last)
   pub braces-known : Knows braceOpen braceClose s (l .braces)
+  pub latest-none : Open s (l .latest)
+  pub older-none : Open s (l .older)

@@ -1,10 +1,11 @@
 // Searches in a blanked text: a byte, a bracket's partner, the ends of white space and of a word, the word `fn`, and the mark of test code. What is known
 // of braces is handed on, so that a text of many that are never closed is not read to its end for each.
 ghost use mathlib.Core.Path.{_≡_};
-ghost use mathlib.Core.Logic.{_≢_};
-ghost use mathlib.Core.List.{_∷_};
+ghost use mathlib.Core.Bool.{true};
+ghost use mathlib.Core.Logic.{_⊎_, _≢_};
+ghost use mathlib.Core.List.{List, _∷_};
 ghost use mathlib.Core.Option.{none};
-ghost use Prim.Native.Nat.{_+_, _≤_};
+ghost use Prim.Native.Nat.{ℕ, _+_, _≤_};
 ghost use lib.ListN.{length, getD, drop};
 ghost use Rattle.text_rules.specs.Bytes.{ascii};
 ghost use Rattle.text_rules.specs.Classes.{braceClose, braceOpen, isSpace, isWord};
@@ -229,10 +230,13 @@ fn matching_delim(s: &[u8], opening: u8, closing: u8, from: usize, u: Unclosed) 
     }
 }
 
-// What was learnt of the braces of a text: no `{` stands from `last` on, and what is known of those that are never closed.
+// What was learnt of the braces of a text: no `{` stands from `last` on, what is known of those that are never closed, and behind which two places the
+// last of these stood that were sought, 0 where there were none.
 pub struct Learnt {
     pub last: usize,
     pub braces: Unclosed,
+    pub latest: usize,
+    pub older: usize,
 }
 
 // At the start of a text.
@@ -242,6 +246,8 @@ pub fn nothing_learnt(s: &[u8]) -> Learnt
     Learnt {
         last: behind_last(s, b'{'),
         braces: known_first(s, b'{', b'}'),
+        latest: 0,
+        older: 0,
     }
 }
 
@@ -251,7 +257,48 @@ pub struct Looked {
     pub learnt: Learnt,
 }
 
-// The partner of a `{` that stands before `from`.
+// Whether a `{` before a place is one of the last that have no partner.
+fn is_open(v: Learnt, from: usize) -> bool
+    ensures { λ r. ⌜ (r ≡ true → (from ≢ 0) × ((from ≡ v .latest) ⊎ (from ≡ v .older))) ⌝ }
+{
+    if from == 0 {
+        return false;
+    }
+    if from == v.latest {
+        return true;
+    }
+    from == v.older
+}
+
+// What was learnt after a `{` before a place was sought, and its partner or none was found.
+fn learnt_after(v: Learnt, from: usize, m: Matched) -> Learnt
+    ensures { λ r. ⌜
+        ((s : List ℕ)
+        → Learned s v
+        → Knows braceOpen braceClose s (m .unclosed)
+        → placeOf (m .place) ≡ partner braceOpen braceClose 0 from (drop from s)
+        → Learned s r)
+        ⌝ }
+{
+    let braces = m.unclosed;
+    let place = m.place;
+    match place {
+        Place::At(_) => Learnt {
+            last: v.last,
+            braces,
+            latest: v.latest,
+            older: v.older,
+        },
+        Place::Nowhere => Learnt {
+            last: v.last,
+            braces,
+            latest: from,
+            older: v.latest,
+        },
+    }
+}
+
+// The partner of a `{` that stands before `from`. Names that stand next to each other often lead to the same `{`.
 pub fn block_end(s: &[u8], from: usize, v: Learnt) -> Looked
     requires { ⌜ (from ≤ length (now s)) × Learned (now s) v ⌝ }
     ensures { λ r. ⌜
@@ -259,14 +306,17 @@ pub fn block_end(s: &[u8], from: usize, v: Learnt) -> Looked
         × Learned (now (s .entry)) (r .learnt)
         ⌝ }
 {
-    let last = v.last;
-    let known = v.braces;
-    let m = matching_delim(s, b'{', b'}', from, known);
+    if is_open(v, from) {
+        return Looked {
+            place: Place::Nowhere,
+            learnt: v,
+        };
+    }
+    let m = matching_delim(s, b'{', b'}', from, v.braces);
     let place = m.place;
-    let braces = m.unclosed;
     Looked {
         place,
-        learnt: Learnt { last, braces },
+        learnt: learnt_after(v, from, m),
     }
 }
 
