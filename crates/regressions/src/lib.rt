@@ -263,7 +263,7 @@ fn accepted(
     ensures { λ r. ⌜ r ≡ acceptedBy (lookup (key (shown (now (tree .entry)) f)) (entriesOfLines (now (lines .entry)))) ⌝ }
 {
     if ordered {
-        return baseline::lookup_ordered(
+        return lookup::lookup_ordered(
             lines,
             functions::path_of(tree, f),
             functions::name_of(tree, f),
