@@ -1,17 +1,16 @@
 -- The regression lines of one function by what the baseline accepts of it, and their lengths in plain numbers.
 use Prim.Native.Nat.{ℕ, _+_, _-_, _≤_}
-use mathlib.Core.Path.{_≡_, refl, ap, ap₂, subst, sym, _∙_}
+use mathlib.Core.Path.{_≡_, refl, ap, subst, sym, _∙_}
 use mathlib.Core.Bool.{true, false}
 use mathlib.Core.List.{List, [], _∷_, _++_, append-assoc, append-nil}
 use mathlib.Core.Option.{Option, none, some}
 use native.Mathlib.Omega.{arith}
 use lib.Dec.{ltb}
 use lib.ListN.{length, length-append}
-use Rattle.text_rules.specs.Bytes.{ascii, if_then_else_, joined, putAt}
+use Rattle.text_rules.specs.Bytes.{ascii, if_then_else_, joined}
 use Rattle.text_rules.specs.Decimal.{decimal}
-use Rattle.text_rules.specs.PutLaws.{put-length, put-next}
 use Rattle.text_rules.specs.SearchLaws.{part-length}
-use Rattle.text_rules.specs.WriterLaws.{joined-length, put-none}
+use Rattle.text_rules.specs.WriterLaws.{joined-length}
 use Rattle.gate_rules.specs.Baseline.{Entry}
 use Rattle.gate_rules.specs.Check.{against, listed, location, moreBranches, moreLines, newAndOver}
 use Rattle.gate_rules.specs.Functions.{Fun, Limits, over}
@@ -23,7 +22,7 @@ use Rattle.baseline.specs.declared.Accepted.the-variants.{Measures, Unlisted}
 use Rattle.baseline.specs.declared.Recorded.{Recorded}
 use Rattle.functions.specs.Shown.{Lies, shown}
 use Rattle.functions.specs.declared.Function.{Function}
-use Rattle.regressions.specs.declared.Size.{Size}
+use Rattle.regression_sizes.specs.declared.Size.{Size}
 
 -- what is accepted of a listed function, as an entry: its path and its name stand in no line
 abbrev pub entryOf : Recorded → Entry
@@ -79,11 +78,6 @@ told line = listed (line ∷ [])
 pub record Measured (r : Size) (lines : List (List ℕ)) : Type 0 where
   pub count-is : r .count ≡ length lines
   pub bytes-is : r .bytes ≡ length (listed lines)
-
--- lines put into `s` from `at` to `next`, which makes it `t`
-pub record Written (at : ℕ) (lines : List (List ℕ)) (s : List ℕ) (next : ℕ) (t : List ℕ) : Type 0 where
-  pub next-is : next ≡ at + length (listed lines)
-  pub bytes-are : t ≡ putAt at (listed lines) s
 
 -- ---- the parts of a line, and their lengths
 
@@ -204,31 +198,3 @@ measured-one {r} {ls} line e c b = subst (Measured r) (sym e) (record { count-is
 pub measured-both : {a b r : Size} {ls ms : List (List ℕ)} → Measured a ls → Measured b ms → r .count ≡ a .count + b .count → r .bytes ≡ a .bytes + b .bytes → Measured r (ls ++ ms)
 measured-both {a} {b} {r} {ls} {ms} x y c d =
     record { count-is = omega (arith, c, x .count-is, y .count-is, length-append ls ms); bytes-is = omega (arith, d, x .bytes-is, y .bytes-is, both-length ls ms) }
-
-pub written-none : (at : ℕ) (s : List ℕ) → Written at [] s at s
-unfolding listed
-written-none at s = record { next-is = omega arith; bytes-are = sym (put-none at s) }
-
-pub written-as : {at next : ℕ} {ls ms : List (List ℕ)} {s t : List ℕ} → ls ≡ ms → Written at ls s next t → Written at ms s next t
-written-as {at} {next} {ls} {ms} {s} {t} e w = subst (λ x. Written at x s next t) e w
-
--- a single line, put with its length told in another form
-pub written-one : (at next n : ℕ) (line s t : List ℕ) → length (told line) ≡ n → (next ≡ at + n) × (t ≡ putAt at (told line) s) → Written at (line ∷ []) s next t
-written-one at next n line s t size w = record { next-is = w .0 ∙ ap (λ k. at + k) (sym size); bytes-are = w .1 }
-
-pub written-both : {at next end : ℕ} {ls ms : List (List ℕ)} {s t u : List ℕ} → at + length (listed (ls ++ ms)) ≤ length s → Written at ls s next t → Written next ms t end u
-    → Written at (ls ++ ms) s end u
-written-both {at} {next} {end} {ls} {ms} {s} {t} {u} h w v =
-    let size = both-length ls ms in
-    record {
-      next-is = omega (arith, w .next-is, v .next-is);
-      bytes-are =
-          v .bytes-are
-          ∙ ap₂ (λ n x. putAt n (listed ms) x) (w .next-is) (w .bytes-are)
-          ∙ put-next at (listed ls) (listed ms) s (omega arith)
-          ∙ ap (λ x. putAt at x s) (sym (listed-append ls ms));
-    }
-
--- a buffer keeps its length
-pub written-length : {at next : ℕ} {ls : List (List ℕ)} {s t : List ℕ} → Written at ls s next t → at + length (listed ls) ≤ length s → length t ≡ length s
-written-length {at} {next} {ls} {s} {t} w h = ap length (w .bytes-are) ∙ put-length at (listed ls) s h

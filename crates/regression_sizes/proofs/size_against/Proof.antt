@@ -1,11 +1,11 @@
--- `regressions::size_against` meets its contract: what is accepted decides which lines there may be.
+-- `regression_sizes::size_against` meets its contract: what is accepted decides which lines there may be.
 use mathlib.Core.Path.{ap, subst, sym}
 use native.Mathlib.Omega.{arith}
 use Rattle.functions.specs.Shown.{limitsOf, shown}
-use Rattle.regressions.specs.Lines.{Measured, accepts}
+use Rattle.regression_sizes.specs.Lines.{Measured, accepts}
 use borrow.Author.Needs.{needs}
-use Rattle.regressions.proofs.size_against.Statement.{statement}
-use Rattle.regressions.proofs.size_against.Tie as tie
+use Rattle.regression_sizes.proofs.size_against.Statement.{statement}
+use Rattle.regression_sizes.proofs.size_against.Tie as tie
 
 returns : tie.Need-returns
 returns c =

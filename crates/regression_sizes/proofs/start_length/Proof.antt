@@ -1,9 +1,9 @@
--- `regressions::start_length` meets its contract: path and name are as long as their bounds are apart.
+-- `regression_sizes::start_length` meets its contract: path and name are as long as their bounds are apart.
 use native.Mathlib.Omega.{arith}
-use Rattle.regressions.specs.Lines.{name-length, path-length}
+use Rattle.regression_sizes.specs.Lines.{name-length, path-length}
 use borrow.Author.Needs.{needs}
-use Rattle.regressions.proofs.start_length.Statement.{statement}
-use Rattle.regressions.proofs.start_length.Tie as tie
+use Rattle.regression_sizes.proofs.start_length.Statement.{statement}
+use Rattle.regression_sizes.proofs.start_length.Tie as tie
 
 returns : tie.Need-returns
 returns c =

@@ -1,12 +1,12 @@
--- `regressions::new_size` meets its contract: the bytes are those of the line's parts.
+-- `regression_sizes::new_size` meets its contract: the bytes are those of the line's parts.
 use mathlib.Core.Path.{refl, sym, _∙_}
 use native.Mathlib.Omega.{arith}
 use Rattle.gate_rules.specs.Check.{newAndOver}
 use Rattle.functions.specs.Shown.{limitsOf, shown}
-use Rattle.regressions.specs.Lines.{measured-none, measured-one, new-length, new-none, new-some}
+use Rattle.regression_sizes.specs.Lines.{measured-none, measured-one, new-length, new-none, new-some}
 use borrow.Author.Needs.{needs}
-use Rattle.regressions.proofs.new_size.Statement.{statement}
-use Rattle.regressions.proofs.new_size.Tie as tie
+use Rattle.regression_sizes.proofs.new_size.Statement.{statement}
+use Rattle.regression_sizes.proofs.new_size.Tie as tie
 
 returns : tie.Need-returns
 returns c =

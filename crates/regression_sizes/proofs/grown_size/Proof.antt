@@ -1,9 +1,9 @@
--- `regressions::grown_size` meets its contract: the lines of both kinds are counted, and their bytes.
+-- `regression_sizes::grown_size` meets its contract: the lines of both kinds are counted, and their bytes.
 use native.Mathlib.Omega.{arith}
 use borrow.Author.Needs.{needs}
-use Rattle.regressions.specs.Lines.{measured-both}
-use Rattle.regressions.proofs.grown_size.Statement.{statement}
-use Rattle.regressions.proofs.grown_size.Tie as tie
+use Rattle.regression_sizes.specs.Lines.{measured-both}
+use Rattle.regression_sizes.proofs.grown_size.Statement.{statement}
+use Rattle.regression_sizes.proofs.grown_size.Tie as tie
 
 returns : tie.Need-returns
 returns c =
