@@ -15,7 +15,7 @@ ghost use Rattle.gate_rules.specs.Scan.{functionsOf};
 ghost use Rattle.baseline.specs.Ordered.{oneKey};
 ghost use Rattle.baseline.specs.Reads.{KeyInside, keyIn};
 ghost use Rattle.baseline.specs.declared.Key.the-variants.{Bytes};
-ghost use Rattle.in_order.specs.KeyLines.{Sizes, Written, keyLines};
+ghost use Rattle.listed_keys.specs.KeyLines.{Sizes, Written, keyLines};
 ghost use Rattle.in_order.specs.StaleKeys.{AllStand, behind, staleIn};
 ghost use Rattle.batches.specs.Gathered.{gathered, oneMore};
 ghost use Rattle.batches.specs.Held.{Bounds, Held, Holds, keyAt, keysAt};
@@ -356,7 +356,7 @@ fn put_batch(
     while i < m {
         let a = wide(starts[i]);
         let b = wide(ends[i]);
-        done = in_order::put_key(out, done, &lines[a..b]);
+        done = listed_keys::put_key(out, done, &lines[a..b]);
         i += 1;
     }
     done
