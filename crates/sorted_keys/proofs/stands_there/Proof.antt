@@ -1,9 +1,9 @@
--- `batches::stands_there` meets its contract: behind the keys none stands, and one of them is compared.
+-- `sorted_keys::stands_there` meets its contract: behind the keys none stands, and one of them is compared.
 use denote.Ref.{now}
 use borrow.Author.Tests.{le-ltb, lt-ltb}
-use Rattle.batches.specs.Held.{held-bounds}
-use Rattle.batches.proofs.stands_there.Statement.{statement}
-use Rattle.batches.proofs.stands_there.Tie as tie
+use Rattle.sorted_keys.specs.Held.{held-bounds}
+use Rattle.sorted_keys.proofs.stands_there.Statement.{statement}
+use Rattle.sorted_keys.proofs.stands_there.Tie as tie
 
 is-key-requires : tie.Need-is-key-requires
 is-key-requires c κs =

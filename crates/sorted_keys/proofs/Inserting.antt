@@ -1,31 +1,20 @@
 -- The keys that two arrays hold, after one key more.
 use Prim.Native.Nat.{ℕ, _+_, _≤_, _<_, min}
 use mathlib.Core.Path.{_≡_, ap, subst, sym, _∙_}
-use mathlib.Core.Bool.{Bool, true, false, _&&_, _||_}
-use mathlib.Core.Logic.{inl, inr}
+use mathlib.Core.Bool.{true, false, _&&_}
 use mathlib.Core.List.{List, []}
-use mathlib.Core.Option.{Option}
 use native.Mathlib.Omega.{arith}
 use lib.Dec.{ltb}
 use lib.ListN.{length, take, getD}
-use lib.Seq.{take-all}
-use borrow.Author.Tests.{lt-ltb, ltb-false, ltb-true}
-use Rattle.text_rules.specs.Bytes.{before, if_then_else_, same}
-use Rattle.text_rules.specs.BytesLaws.{and-left, and-right, true-false, whether}
+use borrow.Author.Tests.{lt-ltb, ltb-true}
+use Rattle.text_rules.specs.Bytes.{before, same}
+use Rattle.text_rules.specs.BytesLaws.{and-left, and-right}
 use Rattle.text_rules.specs.Search.{part}
 use Rattle.text_rules.specs.Selection.{Rising}
-use Rattle.batches.specs.Gathered.{fits, oneMore}
-use Rattle.batches.specs.Held.{Held, Holds, held-get, held-length, keyAt, keysAt, put-inside, put-keys, take-rising}
-use Rattle.batches.specs.Insert.{insert, insert-last, insert-new, insert-past, insert-rising, insert-there, insertAt, placeOf}
+use Rattle.sorted_keys.specs.Held.{Held, Holds, all-first, held-get, held-length, keyAt, keysAt, put-inside, put-keys, take-rising}
+use Rattle.sorted_keys.specs.Insert.{insert, insert-last, insert-new, insert-rising, insert-there, insertAt, placeOf}
 
 module _ (s starts ends : List ℕ) (m : ℕ) (h : Held s starts ends m) where
-  all-first : take 8192 (keysAt s starts ends m) ≡ keysAt s starts ends m
-  all-first = take-all 8192 (keysAt s starts ends m) (omega (arith, held-length s starts ends m h, h .few))
-
-  -- nothing changes
-  pub unchanged : Holds s starts ends m (take 8192 (keysAt s starts ends m))
-  unchanged = record { held = h; keys = sym all-first }
-
   module _ (a b at : ℕ) (place : at ≡ placeOf (part a b s) (keysAt s starts ends m)) (few : at ≤ m) where
     -- the key is behind 8,192 others
     pub behind-all : at ≡ 8192 → Holds s starts ends m (take 8192 (insert (part a b s) (keysAt s starts ends m)))
@@ -45,7 +34,7 @@ module _ (s starts ends : List ℕ) (m : ℕ) (h : Held s starts ends m) where
     there e =
         let k = ltb-true at m (and-left (ltb at m) _ e) in
         let q = insert-there (part a b s) (keysAt s starts ends m) (omega (arith, place, k, held-length s starts ends m h)) (same-at k ∙ and-right (ltb at m) _ e) in
-        record { held = h; keys = sym (ap (take 8192) q ∙ all-first) }
+        record { held = h; keys = sym (ap (take 8192) q ∙ all-first s starts ends m h) }
 
     -- it was put in
     pub added : (ltb at m && same (keyAt s starts ends at) (part a b s)) ≡ false → (starts′ ends′ : List ℕ) (count : ℕ) → length starts′ ≡ length starts → length ends′ ≡ length ends
@@ -68,31 +57,3 @@ module _ (s starts ends : List ℕ) (m : ℕ) (h : Held s starts ends m) where
           };
           keys = new;
         }
-
-  -- A key of which it is to be told whether it may be taken.
-  module _ (live : List (List ℕ)) (last : Option (List ℕ)) (k : List ℕ) where
-    by-test : (t : Bool) → fits live last k ≡ t → oneMore live last k (keysAt s starts ends m) ≡ (if t then insert k (keysAt s starts ends m) else keysAt s starts ends m)
-    by-test t e = ap (λ u. if u then insert k (keysAt s starts ends m) else keysAt s starts ends m) e
-
-    -- it may not
-    pub passed : fits live last k ≡ false → Holds s starts ends m (take 8192 (oneMore live last k (keysAt s starts ends m)))
-    passed e = record { held = h; keys = sym (ap (take 8192) (by-test false e) ∙ all-first) }
-
-    -- it has no place: it does not stand before the last of 8,192
-    pub no-place : (ltb m 8192 || before k (keyAt s starts ends 8191)) ≡ false → Holds s starts ends m (take 8192 (oneMore live last k (keysAt s starts ends m)))
-    no-place e =
-        elim (whether (fits live last k)) [
-          | inr t ↦ passed t
-          | inl t ↦ elim (whether (ltb m 8192)) [
-            | inl u ↦ absurd (true-false (ltb m 8192 || before k (keyAt s starts ends 8191)) (rw u) e)
-            | inr u ↦
-                let n : m ≡ 8192 = omega (arith, h .few, ltb-false m 8192 u) in
-                let d : before k (getD (keysAt s starts ends m) 8191 []) ≡ false = ap (before k) (held-get s starts ends m h 8191 (omega (arith, n))) ∙ sym (ap (λ v. v || before k (keyAt s starts ends 8191)) u) ∙ e in
-                record { held = h; keys = sym (ap (take 8192) (by-test true t) ∙ insert-past k (keysAt s starts ends m) 8191 (h .rising) (held-length s starts ends m h ∙ n) d) }
-          ]
-        ]
-
-    -- it may be taken, and was put in
-    pub taken : fits live last k ≡ true → (starts′ ends′ : List ℕ) (count : ℕ) → Holds s starts′ ends′ count (take 8192 (insert k (keysAt s starts ends m)))
-        → Holds s starts′ ends′ count (take 8192 (oneMore live last k (keysAt s starts ends m)))
-    taken e starts′ ends′ count p = record { held = p .held; keys = p .keys ∙ sym (ap (take 8192) (by-test true e)) }

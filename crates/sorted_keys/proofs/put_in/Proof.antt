@@ -1,12 +1,12 @@
--- `batches::put_in` meets its contract: the place that is carried, put in where the loop stands, gives the same places at every turn.
+-- `sorted_keys::put_in` meets its contract: the place that is carried, put in where the loop stands, gives the same places at every turn.
 use Prim.Native.Nat.{_-_, _≤_}
 use mathlib.Core.Path.{_≡_, refl, ap, sym, _∙_}
 use native.Mathlib.Omega.{arith}
 use lib.ListN.{length, take, length-set}
 use borrow.Author.Needs.{needs}
-use Rattle.batches.specs.Insert.{insert-front, insert-step, insertAt}
-use Rattle.batches.proofs.put_in.Statement.{statement}
-use Rattle.batches.proofs.put_in.Tie as tie
+use Rattle.sorted_keys.specs.Insert.{insert-front, insert-step, insertAt}
+use Rattle.sorted_keys.proofs.put_in.Statement.{statement}
+use Rattle.sorted_keys.proofs.put_in.Tie as tie
 
 abbrev Inv-loop : tie.InvT-loop
 Inv-loop places₀ count at place carried₀ i₀ places carried i =

@@ -1,10 +1,10 @@
--- `batches::insert` meets its contract: behind 8,192 others a key has no place, one that stands there already changes nothing, and any other is put in at its place.
+-- `sorted_keys::insert` meets its contract: behind 8,192 others a key has no place, one that stands there already changes nothing, and any other is put in at its place.
 use mathlib.Core.Path.{sym, _∙_}
 use denote.Ref.{now}
 use borrow.Author.Needs.{needs}
-use Rattle.batches.proofs.Inserting.{added, behind-all, there}
-use Rattle.batches.proofs.insert.Statement.{statement}
-use Rattle.batches.proofs.insert.Tie as tie
+use Rattle.sorted_keys.proofs.Inserting.{added, behind-all, there}
+use Rattle.sorted_keys.proofs.insert.Statement.{statement}
+use Rattle.sorted_keys.proofs.insert.Tie as tie
 
 returns : tie.Need-returns
 returns c =

@@ -13,7 +13,7 @@ use Rattle.text_rules.specs.Bytes.{All, before}
 use Rattle.text_rules.specs.BytesLaws.{whether}
 use Rattle.text_rules.specs.Search.{part}
 use Rattle.text_rules.specs.Selection.{Rising}
-use Rattle.batches.specs.Insert.{insertAt}
+use Rattle.sorted_keys.specs.Insert.{insertAt}
 
 -- the keys from starts up to ends
 abbrev pub keysOf : (s starts ends : List ℕ) → List (List ℕ)
@@ -82,6 +82,14 @@ module _ (s starts ends : List ℕ) (m : ℕ) (h : Held s starts ends m) where
         rises = h .inside i k .0;
         ends-in = h .inside i k .1;
       }
+
+  -- they are at most 8,192
+  pub all-first : take 8192 (keysAt s starts ends m) ≡ keysAt s starts ends m
+  all-first = take-all 8192 (keysAt s starts ends m) (omega (arith, held-length, h .few))
+
+  -- nothing changes
+  pub unchanged : Holds s starts ends m (take 8192 (keysAt s starts ends m))
+  unchanged = record { held = h; keys = sym all-first }
 
 -- no key
 pub held-none : (s starts ends : List ℕ) → length starts ≡ 8192 → length ends ≡ 8192 → Held s starts ends 0

@@ -1,4 +1,4 @@
--- `batches::place_of` meets its contract: the place lies between the two ends, and each key that is compared tells in which half.
+-- `sorted_keys::place_of` meets its contract: the place lies between the two ends, and each key that is compared tells in which half.
 use Prim.Native.Nat.{_+_, _-_, _/_, _≤_, _<_}
 use mathlib.Core.Path.{ap, sym, _∙_}
 use native.Mathlib.Omega.{arith}
@@ -6,10 +6,10 @@ use denote.Ref.{now}
 use borrow.Author.Needs.{needs}
 use Rattle.text_rules.specs.Bytes.{before}
 use Rattle.text_rules.specs.Search.{part}
-use Rattle.batches.specs.Held.{held-bounds, held-get, held-length, keysAt}
-use Rattle.batches.specs.Insert.{place-few, place-most, place-past, placeOf}
-use Rattle.batches.proofs.place_of.Statement.{statement}
-use Rattle.batches.proofs.place_of.Tie as tie
+use Rattle.sorted_keys.specs.Held.{held-bounds, held-get, held-length, keysAt}
+use Rattle.sorted_keys.specs.Insert.{place-few, place-most, place-past, placeOf}
+use Rattle.sorted_keys.proofs.place_of.Statement.{statement}
+use Rattle.sorted_keys.proofs.place_of.Tie as tie
 
 abbrev Inv-loop : tie.InvT-loop
 Inv-loop lines starts ends m from to lo₀ hi₀ lo hi =
