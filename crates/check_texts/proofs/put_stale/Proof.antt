@@ -1,4 +1,4 @@
--- `gate_check::put_stale` meets its contract: there is a text exactly if there is a stale entry.
+-- `check_texts::put_stale` meets its contract: there is a text exactly if there is a stale entry.
 use Prim.Native.Nat.{_+_, _≤_}
 use mathlib.Core.Path.{_∙_, ap, sym}
 use native.Mathlib.Omega.{arith}
@@ -7,10 +7,10 @@ use denote.Ref.{now}
 use Rattle.text_rules.specs.Bytes.{putAt}
 use Rattle.text_rules.specs.WriterLaws.{put-none}
 use Rattle.in_order.specs.StaleKeys.{staleIn}
-use Rattle.gate_check.specs.Texts.{stale-none, stale-some}
+use Rattle.check_texts.specs.Texts.{stale-none, stale-some}
 use borrow.Author.Needs.{needs}
-use Rattle.gate_check.proofs.put_stale.Statement.{statement}
-use Rattle.gate_check.proofs.put_stale.Tie as tie
+use Rattle.check_texts.proofs.put_stale.Statement.{statement}
+use Rattle.check_texts.proofs.put_stale.Tie as tie
 
 returns : tie.Need-returns
 returns c =

@@ -1,4 +1,4 @@
--- `gate_check::put_verdict` meets its contract: it passes exactly if there is no regression line, and else each part is put behind the one before.
+-- `check_texts::put_verdict` meets its contract: it passes exactly if there is no regression line, and else each part is put behind the one before.
 use Prim.Native.Nat.{_+_, _≤_}
 use mathlib.Core.Path.{_∙_, ap, sym}
 use native.Mathlib.Omega.{arith}
@@ -8,10 +8,10 @@ use Rattle.text_rules.specs.Bytes.{putAt}
 use Rattle.text_rules.specs.WriterLaws.{Puts, puts-all, puts-none, puts-sized, puts-then}
 use Rattle.functions.specs.Shown.{limitsOf}
 use Rattle.listing.specs.Texts.{regression-count-length}
-use Rattle.gate_check.specs.Texts.{verdict-none, verdict-some, verdict-text, verdictParts, worseIn}
+use Rattle.check_texts.specs.Texts.{verdict-none, verdict-some, verdict-text, verdictParts, worseIn}
 use borrow.Author.Needs.{needs}
-use Rattle.gate_check.proofs.put_verdict.Statement.{statement}
-use Rattle.gate_check.proofs.put_verdict.Tie as tie
+use Rattle.check_texts.proofs.put_verdict.Statement.{statement}
+use Rattle.check_texts.proofs.put_verdict.Tie as tie
 
 put-text-requires : tie.Need-put-text-requires
 put-text-requires c κs =

@@ -1,4 +1,4 @@
--- `gate_check::put_stale_text` meets its contract: each part is put behind the one before.
+-- `check_texts::put_stale_text` meets its contract: each part is put behind the one before.
 use mathlib.Core.Path.{ap, _∙_}
 use native.Mathlib.Omega.{arith}
 use lib.ListN.{length}
@@ -7,9 +7,9 @@ use borrow.Author.Needs.{needs}
 use Rattle.text_rules.specs.Bytes.{putAt}
 use Rattle.text_rules.specs.WriterLaws.{Puts, puts-all, puts-none, puts-then}
 use Rattle.in_order.specs.StaleKeys.{staleIn}
-use Rattle.gate_check.specs.Texts.{stale-some, stale-text, staleParts}
-use Rattle.gate_check.proofs.put_stale_text.Statement.{statement}
-use Rattle.gate_check.proofs.put_stale_text.Tie as tie
+use Rattle.check_texts.specs.Texts.{stale-some, stale-text, staleParts}
+use Rattle.check_texts.proofs.put_stale_text.Statement.{statement}
+use Rattle.check_texts.proofs.put_stale_text.Tie as tie
 
 put-all-requires : tie.Need-put-all-requires
 put-all-requires c κs =
