@@ -1,17 +1,16 @@
--- `tree::laid_out` meets its contract: after k entries, the entries that are left fit from the running place on exactly if all do.
+-- `layout::laid_out` meets its contract: after k entries, the entries that are left fit from the running place on exactly if all do.
 use borrow.Author.Needs.{needs}
 use Prim.Native.Nat.{ℕ, _+_, _-_, _*_, _≤_, _<_}
-use mathlib.Core.Path.{_≡_, refl, sym, ap, ap₂, _∙_}
+use mathlib.Core.Path.{_≡_, sym, ap, ap₂, _∙_}
 use mathlib.Core.List.{List}
 use mathlib.Core.Bool.{true, false}
 use native.Mathlib.Omega.{arith}
-use lib.Dec.{leb}
 use lib.ListN.{length}
 use Rattle.text_rules.specs.U32.{u32At}
 use Rattle.gate_rules.specs.Tree.{fileCount, entriesFit, entryFits, isLaidOut}
 use Rattle.gate_rules.specs.ScanForms.{entries-step, entries-end, layout-short, layout-many, layout-no-table, layout-rest}
-use Rattle.tree.proofs.laid_out.Statement.{statement}
-use Rattle.tree.proofs.laid_out.Tie as tie
+use Rattle.layout.proofs.laid_out.Statement.{statement}
+use Rattle.layout.proofs.laid_out.Tie as tie
 
 next : (tree : List ℕ) (n k place u v : ℕ) → k < n → entryFits tree (4 + 16 * k) place ≡ true → u ≡ u32At tree (4 + 16 * k + 8) → v ≡ u32At tree (4 + 16 * k + 12)
     → entriesFit tree (n - (k + 1)) (4 + 16 * (k + 1)) (u + v) ≡ entriesFit tree (n - k) (4 + 16 * k) place

@@ -1,9 +1,9 @@
--- `tree::is_path` meets its contract: each test is one of the definition's, in its order.
+-- `paths::is_path` meets its contract: each test is one of the definition's, in its order.
 use mathlib.Core.Path.{sym, _∙_}
 use borrow.Author.Needs.{needs}
 use Rattle.gate_rules.specs.PathForms.{path-comment, path-last, path-lf, path-tab}
-use Rattle.tree.proofs.is_path.Statement.{statement}
-use Rattle.tree.proofs.is_path.Tie as tie
+use Rattle.paths.proofs.is_path.Statement.{statement}
+use Rattle.paths.proofs.is_path.Tie as tie
 
 returns : tie.Need-returns
 returns c =

@@ -1,9 +1,9 @@
--- `tree::order` meets its contract: the test is the definition's.
+-- `paths::order` meets its contract: the test is the definition's.
 use mathlib.Core.Path.{sym}
 use borrow.Author.Needs.{needs}
 use Rattle.gate_rules.specs.PathForms.{rank-other, rank-slash}
-use Rattle.tree.proofs.order.Statement.{statement}
-use Rattle.tree.proofs.order.Tie as tie
+use Rattle.paths.proofs.order.Statement.{statement}
+use Rattle.paths.proofs.order.Tie as tie
 
 returns : tie.Need-returns
 returns c = sym (rank-slash (c .before .args .b) (c .if1 .taken))

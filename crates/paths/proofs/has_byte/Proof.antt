@@ -1,4 +1,4 @@
--- `tree::has_byte` meets its contract: what is asked of the rest is what was asked of the whole.
+-- `paths::has_byte` meets its contract: what is asked of the rest is what was asked of the whole.
 use Prim.Native.Nat.{_≤_, _-_}
 use mathlib.Core.Path.{_≡_, refl, sym, _∙_}
 use native.Mathlib.Omega.{arith}
@@ -6,8 +6,8 @@ use lib.ListN.{length, drop}
 use borrow.Author.Needs.{needs}
 use Rattle.text_rules.specs.Search.{has}
 use Rattle.gate_rules.specs.PathForms.{has-end, has-found, has-next}
-use Rattle.tree.proofs.has_byte.Statement.{statement}
-use Rattle.tree.proofs.has_byte.Tie as tie
+use Rattle.paths.proofs.has_byte.Statement.{statement}
+use Rattle.paths.proofs.has_byte.Tie as tie
 
 abbrev Inv-loop : tie.InvT-loop
 Inv-loop s x i₀ i = (i ≤ length s) × (has x (drop i s) ≡ has x s)

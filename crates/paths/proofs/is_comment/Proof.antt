@@ -1,9 +1,9 @@
--- `tree::is_comment` meets its contract: the first byte is the definition's.
+-- `paths::is_comment` meets its contract: the first byte is the definition's.
 use mathlib.Core.Path.{sym}
 use borrow.Author.Needs.{needs}
 use Rattle.gate_rules.specs.PathForms.{comment-first, comment-none}
-use Rattle.tree.proofs.is_comment.Statement.{statement}
-use Rattle.tree.proofs.is_comment.Tie as tie
+use Rattle.paths.proofs.is_comment.Statement.{statement}
+use Rattle.paths.proofs.is_comment.Tie as tie
 
 returns : tie.Need-returns
 returns c = sym (comment-none (c .before .args .s .now) (c .if1 .taken))

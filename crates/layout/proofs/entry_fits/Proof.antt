@@ -1,5 +1,5 @@
--- `tree::entry_fits` meets its contract: each test is one of the definition's, in its order.
-use Prim.Native.Nat.{ℕ, _+_}
+-- `layout::entry_fits` meets its contract: each test is one of the definition's, in its order.
+use Prim.Native.Nat.{_+_}
 use mathlib.Core.Path.{_≡_, sym, ap₂, _∙_}
 use native.Mathlib.Omega.{arith}
 use lib.Dec.{leb}
@@ -7,8 +7,8 @@ use lib.ListN.{length}
 use Rattle.text_rules.specs.U32.{u32At}
 use Rattle.gate_rules.specs.ScanForms.{entry-no-path, entry-empty-path, entry-long-path, entry-no-text, entry-last}
 use borrow.Author.Needs.{needs}
-use Rattle.tree.proofs.entry_fits.Statement.{statement}
-use Rattle.tree.proofs.entry_fits.Tie as tie
+use Rattle.layout.proofs.entry_fits.Statement.{statement}
+use Rattle.layout.proofs.entry_fits.Tie as tie
 
 returns : tie.Need-returns
 returns c =

@@ -1,8 +1,8 @@
--- `tree::next_path` meets its contract: the second test counts only where the first passes.
+-- `paths::next_path` meets its contract: the second test counts only where the first passes.
 use mathlib.Core.Path.{sym, _∙_}
 use borrow.Author.Needs.{needs}
-use Rattle.tree.proofs.next_path.Statement.{statement}
-use Rattle.tree.proofs.next_path.Tie as tie
+use Rattle.paths.proofs.next_path.Statement.{statement}
+use Rattle.paths.proofs.next_path.Tie as tie
 
 returns : tie.Need-returns
 returns c = rw (sym (c .before .before .is-path .ensures) ∙ c .before .if1 .taken) (c .path-before .ensures)

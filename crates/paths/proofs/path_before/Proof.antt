@@ -1,4 +1,4 @@
--- `tree::path_before` meets its contract: where the paths agree up to a place, the order of the rests is the order of the paths.
+-- `paths::path_before` meets its contract: where the paths agree up to a place, the order of the rests is the order of the paths.
 use Prim.Native.Nat.{_≤_, _<_, _-_}
 use mathlib.Core.Path.{_≡_, refl, sym, _∙_}
 use native.Mathlib.Omega.{arith}
@@ -6,8 +6,8 @@ use lib.ListN.{length, drop, getD}
 use borrow.Author.Needs.{needs}
 use Rattle.gate_rules.specs.Tree.{pathBefore, rank}
 use Rattle.gate_rules.specs.PathForms.{before-longer, before-lower, before-other, before-same, before-shorter}
-use Rattle.tree.proofs.path_before.Statement.{statement}
-use Rattle.tree.proofs.path_before.Tie as tie
+use Rattle.paths.proofs.path_before.Statement.{statement}
+use Rattle.paths.proofs.path_before.Tie as tie
 
 abbrev Inv-loop : tie.InvT-loop
 Inv-loop p q i₀ i = (i ≤ length q) × (pathBefore (drop i p) (drop i q) ≡ pathBefore p q)

@@ -1,8 +1,8 @@
--- `tree::file_count` meets its contract: the count is the tree's first number.
+-- `layout::file_count` meets its contract: the count is the tree's first number.
 use borrow.Author.Needs.{needs}
 use Rattle.gate_rules.specs.Tree.{fileCount}
-use Rattle.tree.proofs.file_count.Statement.{statement}
-use Rattle.tree.proofs.file_count.Tie as tie
+use Rattle.layout.proofs.file_count.Statement.{statement}
+use Rattle.layout.proofs.file_count.Tie as tie
 
 returns : tie.Need-returns
 unfolding fileCount
