@@ -1,4 +1,4 @@
--- `gate_update::rows_size` meets its contract: what is counted and what is left are all rows.
+-- `update_rows::rows_size` meets its contract: what is counted and what is left are all rows.
 use Prim.Native.Nat.{_+_, _-_, _≤_}
 use mathlib.Core.Path.{_≡_, ap, sym, _∙_}
 use mathlib.Core.Bool.{true, false}
@@ -11,10 +11,10 @@ use Rattle.gate_rules.specs.Gate.{gate}
 use Rattle.gate_rules.specs.Scan.{functionsOf}
 use Rattle.gate_rules.specs.TreeSizes.{tree-functions}
 use Rattle.functions.specs.Shown.{limitsOf, noFun}
-use Rattle.gate_update.specs.Rows.{linedLength, narrow}
-use Rattle.gate_update.proofs.Sizes.{all-bytes, all-count, bytes-over, bytes-under, count-over, count-under, leftBytes, leftCount, none-left, rows-few, rows-short}
-use Rattle.gate_update.proofs.rows_size.Statement.{statement}
-use Rattle.gate_update.proofs.rows_size.Tie as tie
+use Rattle.update_rows.specs.Rows.{linedLength, narrow}
+use Rattle.update_rows.proofs.Sizes.{all-bytes, all-count, bytes-over, bytes-under, count-over, count-under, leftBytes, leftCount, none-left, rows-few, rows-short}
+use Rattle.update_rows.proofs.rows_size.Statement.{statement}
+use Rattle.update_rows.proofs.rows_size.Tie as tie
 
 abbrev Inv-loop : tie.InvT-loop
 Inv-loop tree lent n limits count₀ bytes₀ k₀ count bytes k =

@@ -1,4 +1,4 @@
--- `gate_update::put_rows` meets its contract: each turn takes the next function and puts its row behind. The limits are read only before the loop, so the
+-- `update_rows::put_rows` meets its contract: each turn takes the next function and puts its row behind. The limits are read only before the loop, so the
 -- invariant speaks of any limits by which the functions were ranked.
 use Prim.Native.Nat.{_+_, _-_}
 use mathlib.Core.Path.{ap, sym, _∙_}
@@ -10,9 +10,9 @@ use Rattle.text_rules.specs.Bytes.{putAt}
 use Rattle.gate_rules.specs.Functions.{Limits}
 use Rattle.functions.specs.Shown.{limitsOf, shown}
 use Rattle.ranking.specs.Writing.{Writing, writing-all, writing-inside, writing-next, writing-none, writing-room, writing-there}
-use Rattle.gate_update.specs.Rows.{lined, lined-length, updateRows}
-use Rattle.gate_update.proofs.put_rows.Statement.{statement}
-use Rattle.gate_update.proofs.put_rows.Tie as tie
+use Rattle.update_rows.specs.Rows.{lined, lined-length, updateRows}
+use Rattle.update_rows.proofs.put_rows.Statement.{statement}
+use Rattle.update_rows.proofs.put_rows.Tie as tie
 
 abbrev Inv-loop : tie.InvT-loop
 Inv-loop tree lent n count out₀ at nodes₀ end₀ done₀ out nodes end done =

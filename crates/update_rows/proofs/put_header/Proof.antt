@@ -1,8 +1,8 @@
--- `gate_update::put_header` meets its contract: the text that is put is the definition's.
+-- `update_rows::put_header` meets its contract: the text that is put is the definition's.
 use Rattle.gate_rules.specs.Update.{header}
 use borrow.Author.Needs.{needs}
-use Rattle.gate_update.proofs.put_header.Statement.{statement}
-use Rattle.gate_update.proofs.put_header.Tie as tie
+use Rattle.update_rows.proofs.put_header.Statement.{statement}
+use Rattle.update_rows.proofs.put_header.Tie as tie
 
 returns : tie.Need-returns
 unfolding header

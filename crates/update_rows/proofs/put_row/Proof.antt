@@ -1,12 +1,12 @@
--- `gate_update::put_row` meets its contract: the measures are put behind path and name.
+-- `update_rows::put_row` meets its contract: the measures are put behind path and name.
 use mathlib.Core.Path.{ap₂}
 use native.Mathlib.Omega.{arith}
 use denote.Ref.{now}
 use Rattle.functions.specs.Shown.{shown}
-use Rattle.gate_update.specs.Rows.{keyedLength, put-lined}
+use Rattle.update_rows.specs.Rows.{keyedLength, put-lined}
 use borrow.Author.Needs.{needs}
-use Rattle.gate_update.proofs.put_row.Statement.{statement}
-use Rattle.gate_update.proofs.put_row.Tie as tie
+use Rattle.update_rows.proofs.put_row.Statement.{statement}
+use Rattle.update_rows.proofs.put_row.Tie as tie
 
 put-key-requires : tie.Need-put-key-requires
 put-key-requires c κs = let s = c .before .before .before .before .before in

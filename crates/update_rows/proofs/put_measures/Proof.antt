@@ -1,14 +1,14 @@
--- `gate_update::put_measures` meets its contract: each part is put behind the one before.
+-- `update_rows::put_measures` meets its contract: each part is put behind the one before.
 use mathlib.Core.List.{[], _∷_}
 use native.Mathlib.Omega.{arith}
 use denote.Ref.{now}
 use Rattle.text_rules.specs.Bytes.{ascii}
 use Rattle.text_rules.specs.Decimal.{decimal}
 use Rattle.text_rules.specs.WriterLaws.{Puts, puts-all, puts-none, puts-then}
-use Rattle.gate_update.specs.Rows.{measured-length}
+use Rattle.update_rows.specs.Rows.{measured-length}
 use borrow.Author.Needs.{needs}
-use Rattle.gate_update.proofs.put_measures.Statement.{statement}
-use Rattle.gate_update.proofs.put_measures.Tie as tie
+use Rattle.update_rows.proofs.put_measures.Statement.{statement}
+use Rattle.update_rows.proofs.put_measures.Tie as tie
 
 returns : tie.Need-returns
 returns c =

@@ -17,7 +17,7 @@ use Rattle.gate_rules.specs.ListingSizes.{baseline-length, recorded-most}
 use Rattle.gate_rules.specs.Scan.{Accepted, functionsOf}
 use Rattle.gate_rules.specs.Update.{baselineText, header, overLimit, recorded, row, rowBefore, rows}
 use Rattle.functions.specs.Shown.{Stand, noFun}
-use Rattle.gate_update.specs.Rows.{lined, lined-length, linedLength}
+use Rattle.update_rows.specs.Rows.{lined, lined-length, linedLength}
 
 module _ (L : Limits) (fs : List Fun) where
   -- the over-limit functions from a number on

@@ -1,4 +1,4 @@
--- `gate_update::put_baseline` meets its contract: the rows are put behind the header.
+-- `update_rows::put_baseline` meets its contract: the rows are put behind the header.
 use native.Mathlib.Omega.{arith}
 use mathlib.Core.Path.{ap, _∙_}
 use denote.Ref.{now}
@@ -8,10 +8,10 @@ use Rattle.gate_rules.specs.Gate.{gate}
 use Rattle.gate_rules.specs.Scan.{functionsOf}
 use Rattle.gate_rules.specs.Update.{header}
 use Rattle.functions.specs.Shown.{limitsOf}
-use Rattle.gate_update.specs.Rows.{header-length, put-text, text-length}
+use Rattle.update_rows.specs.Rows.{header-length, put-text, text-length}
 use borrow.Author.Needs.{needs}
-use Rattle.gate_update.proofs.put_baseline.Statement.{statement}
-use Rattle.gate_update.proofs.put_baseline.Tie as tie
+use Rattle.update_rows.proofs.put_baseline.Statement.{statement}
+use Rattle.update_rows.proofs.put_baseline.Tie as tie
 
 put-header-requires : tie.Need-put-header-requires
 put-header-requires c κs =

@@ -1,9 +1,9 @@
--- `gate_update::row_length` meets its contract: path and name have the lengths that their bounds give.
+-- `update_rows::row_length` meets its contract: path and name have the lengths that their bounds give.
 use Rattle.text_rules.specs.SearchLaws.{part-length}
 use native.Mathlib.Omega.{arith}
 use borrow.Author.Needs.{needs}
-use Rattle.gate_update.proofs.row_length.Statement.{statement}
-use Rattle.gate_update.proofs.row_length.Tie as tie
+use Rattle.update_rows.proofs.row_length.Statement.{statement}
+use Rattle.update_rows.proofs.row_length.Tie as tie
 
 returns : tie.Need-returns
 returns c tree l =
