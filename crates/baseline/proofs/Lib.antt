@@ -1,9 +1,5 @@
 -- The laws that the functions cite.
-mod Fields
-mod Begins
-mod Finds
-mod Halving
-mod KeyOrder
+mod KeyBounds
 mod Keys
 mod Numbers
 mod PlainLines

@@ -20,8 +20,8 @@ use Rattle.baseline.specs.Plain.{Digits, Front, NumberField, PlainLine, 
 use Rattle.baseline.specs.Reads.{Inside}
 use Rattle.baseline.specs.declared.Line.the-variants.{Entry as EntryOf}
 use Rattle.baseline.specs.declared.Listed.{Listed}
-use Rattle.baseline.proofs.Fields.{both-read, four-fields}
-use Rattle.baseline.proofs.Finds.{key-some}
+use Rattle.baseline.specs.Fields.{both-read, four-fields}
+use Rattle.baseline.proofs.KeyBounds.{key-some}
 use Rattle.baseline.proofs.Numbers.{numeral-start, plus-none}
 
 -- ---- numbers of at most nine digits

@@ -1,5 +1,5 @@
 pub mod Reads
+pub mod Fields
 pub mod Steps
 pub mod Plain
 pub mod Ordered
-pub mod Halves

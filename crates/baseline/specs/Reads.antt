@@ -70,8 +70,3 @@ keyOfEntry (some e) = some (entryKey e)
 abbrev pub acceptedBy : Option Entry → Accepted
 acceptedBy (some e) = Measures (record { cyclomatic = e .cyclomatic; lines = e .lines })
 acceptedBy none = Unlisted
-
--- the later of two finds
-abbrev pub later : Accepted → Accepted → Accepted
-later found (Measures m) = Measures m
-later found Unlisted = found

@@ -1,5 +1,5 @@
 -- The laws that the functions cite.
-mod Inserting
+mod Deciding
 mod Lines
 mod Taking
 mod Writing

@@ -17,7 +17,7 @@ use Rattle.baseline.specs.Reads.{keyIn, keyOfEntry, lineAt}
 use Rattle.baseline.specs.Steps.{entries-end}
 use Rattle.in_order.specs.StaleKeys.{behind}
 use Rattle.batches.specs.Gathered.{gathered, gathered-append, gathered-is, gathered-none, gathered-take}
-use Rattle.batches.specs.Held.{Held, Holds, held-length, held-none, keysAt}
+use Rattle.sorted_keys.specs.Held.{Held, Holds, held-length, held-none, keysAt}
 
 module _ (fs : List Fun) (last : Option (List ℕ)) (s : List ℕ) where
   -- with the keys from a place on, those that are held give the keys of all lines

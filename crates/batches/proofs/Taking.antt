@@ -19,10 +19,10 @@ use Rattle.baseline.specs.declared.Key.{Key}
 use Rattle.baseline.specs.declared.Key.the-variants.{Bytes, Nothing}
 use Rattle.baseline.specs.Reads.{KeyInside, keyIn}
 use Rattle.order.specs.Best.{lastOf}
-use Rattle.in_order.specs.KeyLines.{keyLines, line-length, lines-more}
+use Rattle.listed_keys.specs.KeyLines.{keyLines, line-length, lines-more}
 use Rattle.in_order.specs.StaleKeys.{behind}
 use Rattle.batches.specs.Behind.{past}
-use Rattle.batches.specs.Held.{Held, Holds, held-get, held-length, keyAt, keysAt}
+use Rattle.sorted_keys.specs.Held.{Held, Holds, held-get, held-length, keyAt, keysAt}
 
 -- the lines of keys, and of more keys behind them
 both-lines : (ks js : List (List ℕ)) → keyLines (ks ++ js) ≡ keyLines ks ++ keyLines js

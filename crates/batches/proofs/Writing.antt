@@ -13,9 +13,9 @@ use Rattle.gate_rules.specs.Functions.{Fun}
 use Rattle.baseline.specs.declared.Key.{Key}
 use Rattle.baseline.specs.declared.Key.the-variants.{Bytes, Nothing}
 use Rattle.baseline.specs.Reads.{keyIn}
-use Rattle.in_order.specs.KeyLines.{keyLines, lines-most}
+use Rattle.listed_keys.specs.KeyLines.{keyLines, lines-most}
 use Rattle.in_order.specs.StaleKeys.{behind}
-use Rattle.batches.specs.Held.{Holds, keysAt}
+use Rattle.sorted_keys.specs.Held.{Holds, keysAt}
 use Rattle.batches.proofs.Taking.{Reached, all-taken, bytes-more, bytes-together, lines-together, reached-more, reached-none}
 
 module _ (es : List Entry) (fs : List Fun) (s : List ℕ) (at : ℕ) (out₀ : List ℕ) where

@@ -19,7 +19,7 @@ use Rattle.gate_rules.specs.StaleLaws.{stale-each, stale-only, stale-rising}
 use Rattle.in_order.specs.InOrder.{rising-same}
 use Rattle.in_order.specs.StaleKeys.{behind}
 use Rattle.batches.specs.Behind.{kept-rising}
-use Rattle.batches.specs.Insert.{insert, insert-all, insert-it, insert-others, insert-rising, insert-take}
+use Rattle.sorted_keys.specs.Insert.{insert, insert-all, insert-it, insert-others, insert-rising, insert-take}
 
 module _ (live : List (List ℕ)) (last : Option (List ℕ)) where
   -- a key may be taken: it stands behind the last one, and no function has it

@@ -1,4 +1,2 @@
 pub mod Behind
-pub mod Insert
 pub mod Gathered
-pub mod Held

@@ -1,12 +1,12 @@
 // The stale keys of a baseline whose keys stand in any order. A pass over its lines gathers the first 8,192 of them behind the last one taken, in byte
 // order and each once; so many keys are taken in one pass. Keys stay where they are, in the lines: two lent arrays hold where they start and end.
 ghost use mathlib.Core.Path.{_≡_};
-ghost use mathlib.Core.Bool.{true, _&&_, _||_};
+ghost use mathlib.Core.Bool.{true, _||_};
 ghost use mathlib.Core.List.{[], _∷_, map};
-ghost use Prim.Native.Nat.{_+_, _≤_, _<_, min};
+ghost use Prim.Native.Nat.{_+_, _≤_};
 ghost use lib.Dec.{ltb};
 ghost use lib.ListN.{length, getD, take};
-ghost use Rattle.text_rules.specs.Bytes.{before, kept, same};
+ghost use Rattle.text_rules.specs.Bytes.{before, kept};
 ghost use Rattle.text_rules.specs.Search.{part};
 ghost use Rattle.text_rules.specs.Utf8.{isUtf8};
 ghost use Rattle.gate_rules.specs.Functions.{key};
@@ -15,43 +15,19 @@ ghost use Rattle.gate_rules.specs.Scan.{functionsOf};
 ghost use Rattle.baseline.specs.Ordered.{oneKey};
 ghost use Rattle.baseline.specs.Reads.{KeyInside, keyIn};
 ghost use Rattle.baseline.specs.declared.Key.the-variants.{Bytes};
-ghost use Rattle.in_order.specs.KeyLines.{Sizes, Written, keyLines};
+ghost use Rattle.listed_keys.specs.KeyLines.{Sizes, Written, keyLines};
 ghost use Rattle.in_order.specs.StaleKeys.{AllStand, behind, staleIn};
 ghost use Rattle.batches.specs.Gathered.{gathered, oneMore};
-ghost use Rattle.batches.specs.Held.{Bounds, Held, Holds, keyAt, keysAt};
-ghost use Rattle.batches.specs.Insert.{insert, insertAt, placeOf};
+ghost use Rattle.sorted_keys.specs.Held.{Bounds, Held, Holds, keyAt, keysAt};
 use baseline::Key;
 use in_order::Size;
 
 // How many keys are taken in a pass.
 pub const MOST: usize = 8192;
 
-fn wide(place: u32) -> usize
-    ensures { λ r. ⌜ r ≡ place ⌝ }
-{
-    place as usize
-}
+// ---- the keys of the lines
 
-// ---- keys by their bounds
-
-// Whether the key with a number stands before another one.
-fn stands_before(
-    lines: &[u8],
-    starts: &[u32],
-    ends: &[u32],
-    i: usize,
-    from: usize,
-    to: usize,
-) -> bool
-    requires { ⌜ Bounds (now lines) (now starts) (now ends) i × (from ≤ to) × (to ≤ length (now lines)) ⌝ }
-    ensures { λ r. ⌜ r ≡ before (keyAt (now (lines .entry)) (now (starts .entry)) (now (ends .entry)) i) (part from to (now (lines .entry))) ⌝ }
-{
-    let a = wide(starts[i]);
-    let b = wide(ends[i]);
-    order::before(&lines[a..b], &lines[from..to])
-}
-
-// Whether it stands behind the other one.
+// Whether the key with a number stands behind another one.
 fn stands_behind(
     lines: &[u8],
     starts: &[u32],
@@ -63,126 +39,10 @@ fn stands_behind(
     requires { ⌜ Bounds (now lines) (now starts) (now ends) i × (from ≤ to) × (to ≤ length (now lines)) ⌝ }
     ensures { λ r. ⌜ r ≡ before (part from to (now (lines .entry))) (keyAt (now (lines .entry)) (now (starts .entry)) (now (ends .entry)) i) ⌝ }
 {
-    let a = wide(starts[i]);
-    let b = wide(ends[i]);
+    let a = sorted_keys::wide(starts[i]);
+    let b = sorted_keys::wide(ends[i]);
     order::before(&lines[from..to], &lines[a..b])
 }
-
-// Whether it is the other one.
-fn is_key(lines: &[u8], starts: &[u32], ends: &[u32], i: usize, from: usize, to: usize) -> bool
-    requires { ⌜ Bounds (now lines) (now starts) (now ends) i × (from ≤ to) × (to ≤ length (now lines)) ⌝ }
-    ensures { λ r. ⌜ r ≡ same (keyAt (now (lines .entry)) (now (starts .entry)) (now (ends .entry)) i) (part from to (now (lines .entry))) ⌝ }
-{
-    let a = wide(starts[i]);
-    let b = wide(ends[i]);
-    order::same_bytes(&lines[a..b], &lines[from..to])
-}
-
-// ---- a key put in
-
-// How many of the m keys stand before a key. They rise, so it is found by halves.
-fn place_of(lines: &[u8], starts: &[u32], ends: &[u32], m: usize, from: usize, to: usize) -> usize
-    requires { ⌜ Held (now lines) (now starts) (now ends) m × (from ≤ to) × (to ≤ length (now lines)) ⌝ }
-    ensures { λ r. ⌜
-        (r ≡ placeOf (part from to (now (lines .entry))) (keysAt (now (lines .entry)) (now (starts .entry)) (now (ends .entry)) m))
-        × (r ≤ m)
-        ⌝ }
-{
-    let mut lo: usize = 0;
-    let mut hi = m;
-    while lo < hi {
-        let middle = lo + (hi - lo) / 2;
-        if stands_before(lines, starts, ends, middle, from, to) {
-            lo = middle + 1;
-        } else {
-            hi = middle;
-        }
-    }
-    lo
-}
-
-// Whether one of the m keys stands at that place and is the key.
-fn stands_there(
-    lines: &[u8],
-    starts: &[u32],
-    ends: &[u32],
-    m: usize,
-    at: usize,
-    from: usize,
-    to: usize,
-) -> bool
-    requires { ⌜ Held (now lines) (now starts) (now ends) m × (from ≤ to) × (to ≤ length (now lines)) ⌝ }
-    ensures { λ r. ⌜ r ≡ (ltb at m && same (keyAt (now (lines .entry)) (now (starts .entry)) (now (ends .entry)) at) (part from to (now (lines .entry)))) ⌝ }
-{
-    if at < m {
-        return is_key(lines, starts, ends, at, from, to);
-    }
-    false
-}
-
-// A place put in at a number: those from there on move by one, up to `count` of them all, and the one behind is dropped.
-fn put_in(places: &mut [u32], count: usize, at: usize, place: u32)
-    requires { ⌜ (at ≤ count) × (count ≤ length (now places)) ⌝ }
-    ensures { λ _. ⌜
-        (take count (now (places .exit)) ≡ take count (insertAt at place (now (places .entry))))
-        × (length (now (places .exit)) ≡ length (now (places .entry)))
-        ⌝ }
-{
-    let mut carried = place;
-    let mut i = at;
-    while i < count {
-        let next = places[i];
-        places[i] = carried;
-        carried = next;
-        i += 1;
-    }
-}
-
-// One key more, while there is a place for it.
-fn one_more(m: usize) -> usize
-    requires { ⌜ m ≤ 8192 ⌝ }
-    ensures { λ r. ⌜ r ≡ min (m + 1) 8192 ⌝ }
-{
-    if m < MOST {
-        return m + 1;
-    }
-    MOST
-}
-
-// A key put in among the m keys at its place, if it does not stand there yet. Where all places are taken, the last key is dropped.
-fn insert(
-    lines: &[u8],
-    starts: &mut [u32],
-    ends: &mut [u32],
-    m: usize,
-    from: usize,
-    to: usize,
-) -> usize
-    requires { ⌜
-        Held (now lines) (now starts) (now ends) m
-        × (from ≤ to)
-        × (to ≤ length (now lines))
-        × (length (now lines) ≤ 33554432)
-        ⌝ }
-    ensures { λ r. ⌜
-        Holds (now (lines .entry)) (now (starts .exit)) (now (ends .exit)) r
-        (take 8192 (insert (part from to (now (lines .entry))) (keysAt (now (lines .entry)) (now (starts .entry)) (now (ends .entry)) m)))
-        ⌝ }
-{
-    let at = place_of(lines, starts, ends, m, from, to);
-    if at == MOST {
-        return m;
-    }
-    if stands_there(lines, starts, ends, m, at, from, to) {
-        return m;
-    }
-    let count = one_more(m);
-    put_in(starts, count, at, from as u32);
-    put_in(ends, count, at, to as u32);
-    count
-}
-
-// ---- the keys of the lines
 
 // Behind the last key that was taken. At first none was.
 fn is_behind(lines: &[u8], last: Key, from: usize, to: usize) -> bool
@@ -242,7 +102,7 @@ fn add_key(
     if live::is_live(tree, lent, n, &lines[from..to]) {
         return m;
     }
-    insert(lines, starts, ends, m, from, to)
+    sorted_keys::insert(lines, starts, ends, m, from, to)
 }
 
 // The key of a line more, where the line has one.
@@ -328,8 +188,8 @@ fn batch_bytes(lines: &[u8], starts: &[u32], ends: &[u32], m: usize) -> usize
     let mut bytes: usize = 0;
     let mut i = 0;
     while i < m {
-        let a = wide(starts[i]);
-        let b = wide(ends[i]);
+        let a = sorted_keys::wide(starts[i]);
+        let b = sorted_keys::wide(ends[i]);
         bytes += line_bytes(&lines[a..b]);
         i += 1;
     }
@@ -354,9 +214,9 @@ fn put_batch(
     let mut done = at;
     let mut i = 0;
     while i < m {
-        let a = wide(starts[i]);
-        let b = wide(ends[i]);
-        done = in_order::put_key(out, done, &lines[a..b]);
+        let a = sorted_keys::wide(starts[i]);
+        let b = sorted_keys::wide(ends[i]);
+        done = listed_keys::put_key(out, done, &lines[a..b]);
         i += 1;
     }
     done
@@ -367,8 +227,8 @@ fn last_of(starts: &[u32], ends: &[u32]) -> Key
     requires { ⌜ (length (now starts) ≡ 8192) × (length (now ends) ≡ 8192) ⌝ }
     ensures { λ r. ⌜ r ≡ Bytes (getD (now (starts .entry)) 8191 0) (getD (now (ends .entry)) 8191 0) ⌝ }
 {
-    let a = wide(starts[MOST - 1]);
-    let b = wide(ends[MOST - 1]);
+    let a = sorted_keys::wide(starts[MOST - 1]);
+    let b = sorted_keys::wide(ends[MOST - 1]);
     Key::Bytes(a, b)
 }
 

@@ -63,7 +63,7 @@ pub fn function_at(tree: &[u8], lent: &[u8], k: usize) -> Function
     ensures { λ r. ⌜ (shown (now (tree .entry)) r ≡ getD (functionsOf gate (now (tree .entry))) k noFun) × Lies (now (tree .entry)) r ⌝ }
 {
     let r = records::get_record(lent, k * records::RECORD_WIDTH);
-    let path = tree::path_span(tree, r.file as usize);
+    let path = layout::path_span(tree, r.file as usize);
     let start = r.start as usize;
     Function {
         path_at: path.from,

@@ -57,7 +57,7 @@ fn early_refusal(tree: &[u8], work: usize, entries: usize) -> u32
     if work < tree.len() {
         return 5;
     }
-    if entries < tree::file_count(tree) {
+    if entries < layout::file_count(tree) {
         return 6;
     }
     0
@@ -154,7 +154,7 @@ fn listed(limits: Limits, tree: &[u8], lent: &[u8], n: usize, output: &mut [u8])
     requires { ⌜ Stand (now tree) (now lent) × (n ≡ length (functionsOf gate (now tree))) ⌝ }
     ensures { λ r. ⌜ Listed (limitsOf limits) (now (tree .entry)) (now (output .entry)) r (now (output .exit)) ⌝ }
 {
-    let files = tree::file_count(tree);
+    let files = layout::file_count(tree);
     let totals = sums::file_totals(tree, lent, n);
     let of = totals.of;
     let heaviest = report_files::heaviest_files(tree, &of, files);

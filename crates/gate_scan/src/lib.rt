@@ -27,10 +27,10 @@ fn blank_texts(tree: &[u8], work: &mut [u8])
     requires { ⌜ (isLaidOut (now tree) ≡ true) × (length (now tree) ≤ length (now work)) ⌝ }
     ensures { λ _. ⌜ now (work .exit) ≡ blankInto (sources (now (tree .entry))) (now (work .entry)) ⌝ }
 {
-    let n = tree::file_count(tree);
+    let n = layout::file_count(tree);
     let mut k = 0;
     while k < n {
-        let text = tree::text_span(tree, k);
+        let text = layout::text_span(tree, k);
         let from = text.from;
         let to = text.to;
         blanking::blank_part(tree, work, from, to);
@@ -132,14 +132,14 @@ fn scan_texts(tree: &[u8], work: &[u8], lent: &mut [u8]) -> usize
         × (now (lent .exit) ≡ putRecords 0 (map recordBytes (records (now (tree .entry)))) (now (lent .entry)))
         ⌝ }
 {
-    let n = tree::file_count(tree);
+    let n = layout::file_count(tree);
     let mut noted = [0u32; 4099];
     let mut sums = [0u16; 36865];
     let mut kept = [0usize; 259];
     let mut file = 0;
     let mut done = 0;
     while file < n {
-        let text = tree::text_span(tree, file);
+        let text = layout::text_span(tree, file);
         let from = text.from;
         let to = text.to;
         done = scan_text(

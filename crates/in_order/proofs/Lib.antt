@@ -1,4 +1,2 @@
 -- The laws that the functions cite.
-mod PlainKeys
-mod Wholes
 mod Runs

@@ -17,26 +17,26 @@ use Rattle.gate_rules.specs.Functions.{key}
 use Rattle.gate_rules.specs.Gate.{gate}
 use Rattle.gate_rules.specs.Scan.{functionsOf}
 use Rattle.baseline.specs.Ordered.{fallen}
-use Rattle.baseline.specs.Plain.{Front, PlainKey, PlainLine, ReadPlain}
+use Rattle.baseline.specs.Plain.{Front, PlainKey, PlainLine}
 use Rattle.baseline.specs.Reads.{KeyInside, keyIn}
 use Rattle.baseline.specs.declared.Bounds.{Bounds}
 use Rattle.baseline.specs.declared.Key.{Key}
 use Rattle.baseline.specs.declared.Key.the-variants.{Bytes, Nothing}
-use Rattle.baseline.specs.declared.Plain.{Plain}
-use Rattle.baseline.specs.declared.Plain.the-variants.{Line, Other}
 use Rattle.live.specs.Live.{decided}
 use Rattle.prefix.specs.Common.{common, commonWith}
-use Rattle.in_order.specs.InOrder.{addedIn, repeats}
-use Rattle.in_order.specs.KeyLines.{keyLines}
-use Rattle.in_order.specs.Passing.{adds-key, bytes-step, come-line, count-step, known-rest, sizes-one, toCome}
-use Rattle.in_order.specs.Paths.{Finds, Knows, Meets, OfLine, falls-past, falls-there, knows-next, knows-only, last-there, part-byte, part-length}
+use Rattle.key_lines.specs.Meets.{Finds, Meets, OfLine, falls-past, falls-there, last-there, part-byte, part-length, repeats}
+use Rattle.key_lines.specs.Next.{Behind, Follows}
+use Rattle.key_lines.specs.PlainKeys.{few, moved, plain-finds, plain-of-line}
+use Rattle.listed_keys.specs.KeyLines.{bytes-step, count-step, keyLines, sizes-one}
+use Rattle.listed_keys.specs.Wholes.{plain-count}
+use Rattle.in_order.specs.InOrder.{addedIn}
+use Rattle.in_order.specs.Passing.{adds-key, come-line, known-rest, toCome}
+use Rattle.in_order.specs.Paths.{Knows, knows-next, knows-only}
 use Rattle.in_order.specs.Rise.{risen-next}
-use Rattle.in_order.specs.Runs.{Behind, Follows, Passes, ReadNext}
+use Rattle.in_order.specs.Runs.{Passes}
 use Rattle.in_order.specs.Whole.{plain-next}
-use Rattle.in_order.specs.declared.Found.{Found}
-use Rattle.in_order.specs.declared.Last.{Last}
-use Rattle.in_order.proofs.PlainKeys.{few, moved, plain-finds, plain-of-line}
-use Rattle.in_order.proofs.Wholes.{plain-count}
+use Rattle.key_lines.specs.declared.Found.{Found}
+use Rattle.key_lines.specs.declared.Last.{Last}
 
 -- ---- the key of the line goes on behind what it has in common with the last one
 
@@ -108,11 +108,6 @@ other : (s : List ℕ) (k : Key) (from name path c : ℕ) → KeyInside s k → 
     → Behind s k from c → c < name - from → (fallen (keyIn s k) (some (part from name s)) ≡ false) × (repeats (keyIn s k) (part from name s) ≡ false)
 other s (Bytes a b) from name path c i j m r h = other-key s a b from name path c i j m r h
 other s Nothing from name path c i j m r h = absurd r
-
-pub next-read : (s : List ℕ) (last : Last) (from c : ℕ) (r : Plain) → ReadPlain s from r → last .to ≤ last .from → PlainKey s (last .key) (last .path)
-    → c ≡ commonWith (keyIn s (last .key)) (part from (length s) s) → last .path < c → Behind s (last .key) from c → ReadNext s last from r
-next-read s last from c (Line l) p i f e h b = record { line = p; idle = i; plain-key = f; shared = c; shared-is = e; same-path = h; behind = b }
-next-read s last from c Other p i f e h b = tt
 
 -- ---- line by line
 

@@ -1,8 +1,8 @@
 -- Stale keys of a baseline whose keys never fall: they stand there in the order in which they are listed, each of them once or more.
-use Prim.Native.Nat.{ℕ, _+_, _≤_}
+use Prim.Native.Nat.{ℕ, _≤_}
 use mathlib.Core.Path.{_≡_, refl, ap, sym, subst, _∙_}
 use mathlib.Core.Logic.{_⊎_, inl, inr}
-use mathlib.Core.Bool.{Bool, true, false, _||_}
+use mathlib.Core.Bool.{true, false, _||_}
 use mathlib.Core.List.{List, [], _∷_, _++_, map, List·Memᴰ·head, List·Memᴰ·tail, List·Memᴰ·cases-cons, List·Memᴰ·not-nil}
 use mathlib.Core.Option.{Option, none, some}
 use native.Mathlib.Omega.{arith}
@@ -20,12 +20,8 @@ use Rattle.baseline.specs.Ordered.{Unfalling, fallen, oneKey}
 use Rattle.baseline.specs.Reads.{keyIn}
 use Rattle.baseline.specs.declared.Key.{Key}
 use Rattle.baseline.specs.declared.Key.the-variants.{Bytes, Nothing}
+use Rattle.key_lines.specs.Meets.{repeats}
 use Rattle.in_order.specs.StaleKeys.{behind}
-
--- the key is the last one before it
-abbrev pub repeats : Option (List ℕ) → List ℕ → Bool
-repeats none k = false
-repeats (some l) k = same l k
 
 -- what a key adds to the stale keys: itself, unless it is the last one or a function has it
 abbrev pub added : (live : List (List ℕ)) → (last : Option (List ℕ)) → List ℕ → List (List ℕ)

@@ -1,5 +1,4 @@
 pub mod StaleKeys
-pub mod KeyLines
 pub mod InOrder
 pub mod Whole
 pub mod Paths

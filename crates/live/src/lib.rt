@@ -19,7 +19,7 @@ fn stands_before(tree: &[u8], lent: &[u8], k: usize, path: &[u8]) -> bool
     ensures { λ r. ⌜ r ≡ pathBefore (getD (functionsOf gate (now (tree .entry))) k noFun .path) (now (path .entry)) ⌝ }
 {
     let f = functions::function_at(tree, lent, k);
-    tree::path_before(functions::path_of(tree, f), path)
+    paths::path_before(functions::path_of(tree, f), path)
 }
 
 // Whether the path of the function k stands behind a path.
@@ -28,7 +28,7 @@ fn stands_behind(tree: &[u8], lent: &[u8], k: usize, path: &[u8]) -> bool
     ensures { λ r. ⌜ r ≡ pathBefore (now (path .entry)) (getD (functionsOf gate (now (tree .entry))) k noFun .path) ⌝ }
 {
     let f = functions::function_at(tree, lent, k);
-    tree::path_before(path, functions::path_of(tree, f))
+    paths::path_before(path, functions::path_of(tree, f))
 }
 
 // A number such that the functions in front of it have paths that stand before the path.

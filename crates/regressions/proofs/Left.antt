@@ -16,7 +16,8 @@ use Rattle.gate_rules.specs.LoopForms.{listed-append}
 use Rattle.functions.specs.Shown.{noFun}
 use Rattle.baseline.specs.Reads.{acceptedBy}
 use Rattle.baseline.specs.declared.Accepted.{Accepted}
-use Rattle.regressions.specs.Lines.{Written, accepts, accepts-is, both-length}
+use Rattle.regression_sizes.specs.Lines.{accepts, accepts-is, both-length}
+use Rattle.regressions.specs.Written.{Written}
 
 module _ (L : Limits) (es : List Entry) (fs : List Fun) where
   abbrev pub left : ℕ → List (List ℕ)

@@ -2,9 +2,7 @@
 // knows how many bytes they take before any of them is written.
 ghost use mathlib.Core.Path.{_≡_};
 ghost use mathlib.Core.Bool.{true, false};
-ghost use mathlib.Core.List.{List};
-ghost use Prim.Native.Nat.{ℕ, _+_, _≤_, _<_};
-ghost use lib.Dec.{ltb};
+ghost use Prim.Native.Nat.{_+_, _≤_, _<_};
 ghost use lib.ListN.{length, getD};
 ghost use Rattle.text_rules.specs.Bytes.{putAt};
 ghost use Rattle.gate_rules.specs.Baseline.{entriesOfLines, lookup};
@@ -16,30 +14,15 @@ ghost use Rattle.functions.specs.Shown.{Lies, Stand, limitsOf, noFun, shown};
 ghost use Rattle.baseline.specs.Ordered.{Unfalling, keysIn};
 ghost use Rattle.baseline.specs.Reads.{acceptedBy};
 ghost use Rattle.places.specs.Places.{Filled};
-ghost use Rattle.regressions.specs.Lines.{Measured, Small, Written, accepts, branchesLength, branchesOf, entryOf, grownOf, linesLength, linesOf, newLength, newOf, pair, pairLength, startLength, started, told};
+ghost use Rattle.regression_sizes.specs.Lines.{accepts, branchesLength, branchesOf, entryOf, grownOf, linesLength, linesOf, newLength, newOf, pair, pairLength, startLength, started, told};
+ghost use Rattle.regressions.specs.Written.{Written};
 use baseline::Accepted;
 use baseline::Recorded;
 use functions::Function;
 use functions::Limits;
-
-// How many lines there are, and the bytes of all of them as they are listed.
-pub struct Size {
-    pub count: usize,
-    pub bytes: usize,
-}
+use regression_sizes::Size;
 
 // ---- the start of a line
-
-// The bytes of two spaces and path:line name.
-fn start_length(f: Function) -> usize
-    requires { ⌜ Small f ⌝ }
-    ensures { λ r. ⌜ ((tree : List ℕ) → Lies tree f → r ≡ startLength (shown tree f)) × (r ≤ 33554500) ⌝ }
-{
-    let digits = listing::digits(f.line as u64);
-    let path = f.path_end - f.path_at;
-    let name = f.name_end - f.name_at;
-    2 + path + 1 + digits + 1 + name
-}
 
 // Two spaces and path:line name.
 fn put_start(tree: &[u8], f: Function, out: &mut [u8], at: usize) -> usize
@@ -73,29 +56,6 @@ fn put_pair(out: &mut [u8], at: usize, first: &[u8], m: u64, second: &[u8], n: u
 
 // ---- a listed function with a higher cyclomatic number
 
-// Whether there is such a line.
-fn more_branches(f: Function, m: Recorded) -> bool
-    ensures { λ r. ⌜ r ≡ ltb (m .cyclomatic) (f .cyclomatic) ⌝ }
-{
-    f.cyclomatic > m.cyclomatic
-}
-
-// The size of the line, where there is one.
-fn branches_size(f: Function, m: Recorded) -> Size
-    requires { ⌜ Small f ⌝ }
-    ensures { λ r. ⌜ ((tree : List ℕ) → Lies tree f → Measured r (branchesOf (shown tree f) m)) × (r .count ≤ 1) × (r .bytes ≤ 40000000) ⌝ }
-{
-    if more_branches(f, m) {
-        let start = start_length(f);
-        let digits = listing::digits(f.cyclomatic as u64) + listing::digits(m.cyclomatic as u64);
-        return Size {
-            count: 1,
-            bytes: start + 12 + digits + 5 + 1,
-        };
-    }
-    Size { count: 0, bytes: 0 }
-}
-
 // The line itself.
 fn put_branches_line(tree: &[u8], f: Function, m: Recorded, out: &mut [u8], at: usize) -> usize
     requires { ⌜ Lies (now tree) f × (at + branchesLength (shown (now tree) f) m ≤ length (now out)) ⌝ }
@@ -121,36 +81,13 @@ fn put_branches(tree: &[u8], f: Function, m: Recorded, out: &mut [u8], at: usize
     requires { ⌜ Lies (now tree) f × (at + length (listed (branchesOf (shown (now tree) f) m)) ≤ length (now out)) ⌝ }
     ensures { λ r. ⌜ Written at (branchesOf (shown (now (tree .entry)) f) m) (now (out .entry)) r (now (out .exit)) ⌝ }
 {
-    if more_branches(f, m) {
+    if regression_sizes::more_branches(f, m) {
         return put_branches_line(tree, f, m, out, at);
     }
     at
 }
 
 // ---- a listed function with more lines
-
-// Whether there is such a line.
-fn more_lines(f: Function, m: Recorded) -> bool
-    ensures { λ r. ⌜ r ≡ ltb (m .lines) (f .lines) ⌝ }
-{
-    f.lines as u64 > m.lines
-}
-
-// The size of the line, where there is one.
-fn lines_size(f: Function, m: Recorded) -> Size
-    requires { ⌜ Small f ⌝ }
-    ensures { λ r. ⌜ ((tree : List ℕ) → Lies tree f → Measured r (linesOf (shown tree f) m)) × (r .count ≤ 1) × (r .bytes ≤ 40000000) ⌝ }
-{
-    if more_lines(f, m) {
-        let start = start_length(f);
-        let digits = listing::digits(f.lines as u64) + listing::digits(m.lines);
-        return Size {
-            count: 1,
-            bytes: start + 4 + digits + 12 + 1,
-        };
-    }
-    Size { count: 0, bytes: 0 }
-}
 
 // The line itself.
 fn put_lines_line(tree: &[u8], f: Function, m: Recorded, out: &mut [u8], at: usize) -> usize
@@ -177,30 +114,13 @@ fn put_lines(tree: &[u8], f: Function, m: Recorded, out: &mut [u8], at: usize) -
     requires { ⌜ Lies (now tree) f × (at + length (listed (linesOf (shown (now tree) f) m)) ≤ length (now out)) ⌝ }
     ensures { λ r. ⌜ Written at (linesOf (shown (now (tree .entry)) f) m) (now (out .entry)) r (now (out .exit)) ⌝ }
 {
-    if more_lines(f, m) {
+    if regression_sizes::more_lines(f, m) {
         return put_lines_line(tree, f, m, out, at);
     }
     at
 }
 
 // ---- an unlisted function that is over-limit
-
-// The size of the line, where there is one.
-fn new_size(f: Function, limits: Limits) -> Size
-    requires { ⌜ Small f ⌝ }
-    ensures { λ r. ⌜ ((tree : List ℕ) → Lies tree f → Measured r (newOf (limitsOf limits) (shown tree f))) × (r .count ≤ 1) × (r .bytes ≤ 40000000) ⌝ }
-{
-    if functions::is_over(limits, f) {
-        let start = start_length(f);
-        let first = listing::digits(f.cyclomatic as u64) + listing::digits(f.lines as u64);
-        let second = listing::digits(f.nesting as u64) + listing::digits(f.params as u64);
-        return Size {
-            count: 1,
-            bytes: start + 29 + 7 + first + 9 + 8 + second + 1,
-        };
-    }
-    Size { count: 0, bytes: 0 }
-}
 
 // The line itself.
 fn put_new_line(tree: &[u8], f: Function, out: &mut [u8], at: usize) -> usize
@@ -263,34 +183,13 @@ fn accepted(
     ensures { λ r. ⌜ r ≡ acceptedBy (lookup (key (shown (now (tree .entry)) f)) (entriesOfLines (now (lines .entry)))) ⌝ }
 {
     if ordered {
-        return baseline::lookup_ordered(
+        return lookup::lookup_ordered(
             lines,
             functions::path_of(tree, f),
             functions::name_of(tree, f),
         );
     }
     places::accepted_at(lines, places[k])
-}
-
-// Two sizes together.
-fn both(a: Size, b: Size) -> Size
-    requires { ⌜ (a .count ≤ 1) × (a .bytes ≤ 40000000) × (b .count ≤ 1) × (b .bytes ≤ 40000000) ⌝ }
-    ensures { λ r. ⌜ (r .count ≡ a .count + b .count) × (r .bytes ≡ a .bytes + b .bytes) ⌝ }
-{
-    Size {
-        count: a.count + b.count,
-        bytes: a.bytes + b.bytes,
-    }
-}
-
-// The size of the lines of a listed function: it may have two.
-fn grown_size(f: Function, m: Recorded) -> Size
-    requires { ⌜ Small f ⌝ }
-    ensures { λ r. ⌜ ((tree : List ℕ) → Lies tree f → Measured r (grownOf (shown tree f) m)) × (r .count ≤ 2) × (r .bytes ≤ 80000000) ⌝ }
-{
-    let branches = branches_size(f, m);
-    let lines = lines_size(f, m);
-    both(branches, lines)
 }
 
 // The lines of a listed function.
@@ -300,17 +199,6 @@ fn put_grown(tree: &[u8], f: Function, m: Recorded, out: &mut [u8], at: usize) -
 {
     let next = put_branches(tree, f, m, out, at);
     put_lines(tree, f, m, out, next)
-}
-
-// The size of a function's lines against what is accepted of it.
-fn size_against(f: Function, a: Accepted, limits: Limits) -> Size
-    requires { ⌜ Small f ⌝ }
-    ensures { λ r. ⌜ ((tree : List ℕ) → Lies tree f → Measured r (accepts (limitsOf limits) (shown tree f) a)) × (r .count ≤ 2) × (r .bytes ≤ 80000000) ⌝ }
-{
-    match a {
-        Accepted::Measures(m) => grown_size(f, m),
-        Accepted::Unlisted => new_size(f, limits),
-    }
 }
 
 // A function's lines against what is accepted of it.
@@ -362,7 +250,7 @@ pub fn measure(
     while k < n {
         let f = functions::function_at(tree, lent, k);
         let a = accepted(tree, f, k, lines, ordered, places);
-        let size = size_against(f, a, limits);
+        let size = regression_sizes::size_against(f, a, limits);
         count += size.count;
         bytes += size.bytes;
         k += 1;

@@ -17,7 +17,7 @@ fn path_at<'a>(tree: &'a [u8], k: usize) -> &'a [u8]
     requires { ⌜ (isLaidOut (now tree) ≡ true) × (k < fileCount (now tree)) ⌝ }
     ensures { λ r. ⌜ now r ≡ pathOf (now (tree .entry)) k ⌝ }
 {
-    let path = tree::path_span(tree, k);
+    let path = layout::path_span(tree, k);
     let from = path.from;
     let to = path.to;
     &tree[from..to]

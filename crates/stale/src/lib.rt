@@ -7,7 +7,7 @@ ghost use Prim.Native.Nat.{_+_, _≤_};
 ghost use lib.ListN.{length};
 ghost use Rattle.text_rules.specs.Utf8.{isUtf8};
 ghost use Rattle.baseline.specs.Ordered.{Unfalling, keysIn};
-ghost use Rattle.in_order.specs.KeyLines.{Sizes, Written, keyLines};
+ghost use Rattle.listed_keys.specs.KeyLines.{Sizes, Written, keyLines};
 ghost use Rattle.in_order.specs.StaleKeys.{AllStand, staleIn};
 ghost use Rattle.in_order.specs.Whole.{Whole};
 use in_order::Gone;

@@ -6,7 +6,7 @@ use lib.ListN.{length, drop}
 use borrow.Author.Needs.{needs}
 use Rattle.text_rules.specs.LineForms.{piece-mark}
 use Rattle.text_rules.specs.Search.{bytesBefore}
-use Rattle.baseline.proofs.Fields.{four-fields, no-entry, one-field, three-fields, two-fields}
+use Rattle.baseline.specs.Fields.{four-fields, no-entry, one-field, three-fields, two-fields}
 use Rattle.baseline.proofs.entry_with.Statement.{statement}
 use Rattle.baseline.proofs.entry_with.Tie as tie
 

@@ -2,7 +2,7 @@
 use mathlib.Core.Path.{_≡_}
 use native.Mathlib.Omega.{arith}
 use borrow.Author.Needs.{needs}
-use Rattle.baseline.proofs.Finds.{key-none, key-path, key-some}
+use Rattle.baseline.proofs.KeyBounds.{key-none, key-path, key-some}
 use Rattle.baseline.proofs.key_with.Statement.{statement}
 use Rattle.baseline.proofs.key_with.Tie as tie
 

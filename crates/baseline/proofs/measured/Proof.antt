@@ -3,7 +3,7 @@ use mathlib.Core.Path.{refl}
 use native.Mathlib.Omega.{arith}
 use borrow.Author.Needs.{needs}
 use Rattle.text_rules.specs.DecimalLaws.{number-read}
-use Rattle.baseline.proofs.Fields.{both-read, first-bad, second-bad, was-read}
+use Rattle.baseline.specs.Fields.{both-read, first-bad, second-bad, was-read}
 use Rattle.baseline.proofs.measured.Statement.{statement}
 use Rattle.baseline.proofs.measured.Tie as tie
 

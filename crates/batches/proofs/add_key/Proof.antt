@@ -10,7 +10,7 @@ use Rattle.gate_rules.specs.Gate.{gate}
 use Rattle.gate_rules.specs.Scan.{functionsOf}
 use Rattle.baseline.specs.Reads.{keyIn}
 use Rattle.batches.specs.Gathered.{fits-both, not-behind, not-stale}
-use Rattle.batches.proofs.Inserting.{no-place, passed, taken}
+use Rattle.batches.proofs.Deciding.{no-place, passed, taken}
 use Rattle.batches.proofs.add_key.Statement.{statement}
 use Rattle.batches.proofs.add_key.Tie as tie
 

@@ -10,8 +10,7 @@ use Rattle.gate_rules.specs.Scan.{functionsOf}
 use Rattle.baseline.specs.Ordered.{oneKey}
 use Rattle.baseline.specs.Reads.{KeyInside, keyIn}
 use Rattle.batches.specs.Gathered.{gathered, gathered-none, gathered-one}
-use Rattle.batches.specs.Held.{holds-as, keysAt}
-use Rattle.batches.proofs.Inserting.{unchanged}
+use Rattle.sorted_keys.specs.Held.{holds-as, keysAt, unchanged}
 use Rattle.batches.proofs.add_line.Statement.{statement}
 use Rattle.batches.proofs.add_line.Tie as tie
 

@@ -8,8 +8,8 @@ use denote.Ref.{now}
 use borrow.Author.Needs.{needs}
 use Rattle.text_rules.specs.Search.{part}
 use Rattle.gate_rules.specs.Check.{listed, spaced}
-use Rattle.in_order.specs.KeyLines.{keyLines}
-use Rattle.batches.specs.Held.{held-bounds, keysAt}
+use Rattle.listed_keys.specs.KeyLines.{keyLines}
+use Rattle.sorted_keys.specs.Held.{held-bounds, keysAt}
 use Rattle.batches.proofs.Taking.{all-held, bytes-next}
 use Rattle.batches.proofs.batch_bytes.Statement.{statement}
 use Rattle.batches.proofs.batch_bytes.Tie as tie

@@ -3,7 +3,7 @@ use native.Mathlib.Omega.{arith}
 use denote.Ref.{now}
 use borrow.Author.Needs.{needs}
 use borrow.Author.Tests.{le-ltb, lt-ltb}
-use Rattle.batches.specs.Held.{held-bounds}
+use Rattle.sorted_keys.specs.Held.{held-bounds}
 use Rattle.batches.proofs.has_place.Statement.{statement}
 use Rattle.batches.proofs.has_place.Tie as tie
 

@@ -3,7 +3,7 @@ use mathlib.Core.Path.{sym}
 use native.Mathlib.Omega.{arith}
 use denote.Ref.{now}
 use borrow.Author.Needs.{needs}
-use Rattle.in_order.specs.KeyLines.{line-length}
+use Rattle.listed_keys.specs.KeyLines.{line-length}
 use Rattle.batches.proofs.line_bytes.Statement.{statement}
 use Rattle.batches.proofs.line_bytes.Tie as tie
 

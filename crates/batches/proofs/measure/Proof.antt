@@ -8,8 +8,8 @@ use Rattle.gate_rules.specs.Baseline.{entriesOfLines}
 use Rattle.gate_rules.specs.Check.{listed, stale}
 use Rattle.gate_rules.specs.Gate.{gate}
 use Rattle.gate_rules.specs.Scan.{functionsOf}
-use Rattle.in_order.specs.KeyLines.{count-small, keyLines, lines-most, lines-small}
-use Rattle.in_order.specs.StaleKeys.{staleIn}
+use Rattle.in_order.specs.StaleKeys.{count-small, lines-small, staleIn}
+use Rattle.listed_keys.specs.KeyLines.{keyLines, lines-most}
 use Rattle.batches.proofs.Taking.{Reached, all-taken, bytes-together, more, reached-more, reached-none}
 use Rattle.batches.proofs.measure.Statement.{statement}
 use Rattle.batches.proofs.measure.Tie as tie

@@ -8,7 +8,7 @@ use borrow.Author.Needs.{needs}
 use Rattle.gate_rules.specs.Baseline.{entriesOfLines}
 use Rattle.gate_rules.specs.Gate.{gate}
 use Rattle.gate_rules.specs.Scan.{functionsOf}
-use Rattle.in_order.specs.KeyLines.{keyLines}
+use Rattle.listed_keys.specs.KeyLines.{keyLines}
 use Rattle.in_order.specs.StaleKeys.{staleIn}
 use Rattle.batches.proofs.Writing.{Written, room-left, written-all, written-further, written-more, written-none}
 use Rattle.batches.proofs.put_all.Statement.{statement}

@@ -11,8 +11,8 @@ use Rattle.text_rules.specs.PutLaws.{put-length}
 use Rattle.text_rules.specs.Search.{part}
 use Rattle.text_rules.specs.WriterLaws.{put-none, put-then}
 use Rattle.gate_rules.specs.Check.{listed, spaced}
-use Rattle.in_order.specs.KeyLines.{keyLines, line-length, lines-most}
-use Rattle.batches.specs.Held.{held-bounds, keyAt, keysAt}
+use Rattle.listed_keys.specs.KeyLines.{keyLines, line-length, lines-most}
+use Rattle.sorted_keys.specs.Held.{held-bounds, keyAt, keysAt}
 use Rattle.batches.proofs.Taking.{all-held, bytes-next, lines-next}
 use Rattle.batches.proofs.put_batch.Statement.{statement}
 use Rattle.batches.proofs.put_batch.Tie as tie

@@ -12,7 +12,7 @@ use Rattle.gate_rules.specs.Scan.{functionsOf}
 use Rattle.functions.specs.Shown.{limitsOf}
 use Rattle.places.specs.Places.{Filled}
 use Rattle.gate_check.specs.Checks.{tells-short, tells-whole}
-use Rattle.gate_check.specs.Texts.{both-length, both-put, measured-length}
+use Rattle.check_texts.specs.Texts.{both-length, both-put, measured-length}
 use Rattle.gate_check.proofs.Reading.{listing-small}
 use borrow.Author.Needs.{needs}
 use borrow.Author.Tests.{not-false}

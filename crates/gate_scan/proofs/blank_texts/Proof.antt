@@ -19,8 +19,8 @@ use Rattle.gate_scan.proofs.blank_texts.Tie as tie
 use Rattle.gate_scan.proofs.blank_texts.Reads as reads
 use Rattle.gate_scan.proofs.blank_texts.Lts as lts
 use Rattle.blanking.proofs.blank_part.Reads as blank-part-reads
-use Rattle.tree.proofs.file_count.Reads as file-count-reads
-use Rattle.tree.proofs.text_span.Reads as text-span-reads
+use Rattle.layout.proofs.file_count.Reads as file-count-reads
+use Rattle.layout.proofs.text_span.Reads as text-span-reads
 
 abbrev Inv-loop : tie.InvT-loop
 Inv-loop tree work₀ n k₀ work k =

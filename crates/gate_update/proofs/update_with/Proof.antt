@@ -5,7 +5,7 @@ use denote.Ref.{now}
 use Rattle.gate_rules.specs.Gate.{gate}
 use Rattle.gate_rules.specs.Scan.{functionsOf}
 use Rattle.functions.specs.Shown.{limitsOf}
-use Rattle.gate_update.specs.Rows.{text-length}
+use Rattle.update_rows.specs.Rows.{text-length}
 use Rattle.gate_update.specs.Updates.{refused-updates, scan-count, scan-stands, short-updates, whole-updates}
 use borrow.Author.Needs.{needs}
 use Rattle.gate_update.proofs.update_with.Statement.{statement}

@@ -1,5 +1,5 @@
 -- `in_order::after` meets its contract: a key with the path of the last one keeps its functions, and any other has its own.
-use mathlib.Core.Path.{_≡_, ap, sym}
+use mathlib.Core.Path.{ap, sym}
 use native.Mathlib.Omega.{arith}
 use denote.Ref.{now}
 use borrow.Author.Needs.{needs}

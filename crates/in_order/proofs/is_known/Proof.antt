@@ -1,14 +1,13 @@
 -- `in_order::is_known` meets its contract: each test of the definition is asked in its turn, the second of the functions alone that may have the key.
-use mathlib.Core.Path.{_≡_, sym, _∙_}
+use mathlib.Core.Path.{sym, _∙_}
 use native.Mathlib.Omega.{arith}
 use denote.Ref.{now}
-use borrow.Author.Needs.{needs}
 use Rattle.text_rules.specs.Search.{part}
 use Rattle.gate_rules.specs.Gate.{gate}
 use Rattle.gate_rules.specs.Scan.{functionsOf}
 use Rattle.live.specs.Live.{decided}
-use Rattle.in_order.specs.Paths.{knows-inside, knows-only}
 use Rattle.in_order.specs.Passing.{known-last, known-rest}
+use Rattle.in_order.specs.Paths.{knows-inside, knows-only}
 use Rattle.in_order.proofs.is_known.Statement.{statement}
 use Rattle.in_order.proofs.is_known.Tie as tie
 

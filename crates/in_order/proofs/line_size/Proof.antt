@@ -1,12 +1,12 @@
 -- `in_order::line_size` meets its contract: a line adds its key, where it has one that adds something.
-use Prim.Native.Nat.{_≤_}
 use mathlib.Core.Path.{ap, subst, sym, _∙_}
 use native.Mathlib.Omega.{arith}
 use denote.Ref.{now}
 use borrow.Author.Needs.{needs}
 use Rattle.baseline.specs.Reads.{KeyInside}
+use Rattle.listed_keys.specs.KeyLines.{sizes-none, sizes-one}
 use Rattle.in_order.specs.InOrder.{latest}
-use Rattle.in_order.specs.Passing.{adds-key, adds-none, adds-nothing, sizes-none, sizes-one}
+use Rattle.in_order.specs.Passing.{adds-key, adds-none, adds-nothing}
 use Rattle.in_order.proofs.line_size.Statement.{statement}
 use Rattle.in_order.proofs.line_size.Tie as tie
 

@@ -17,13 +17,13 @@ use Rattle.gate_rules.specs.Gate.{gate}
 use Rattle.gate_rules.specs.Scan.{functionsOf}
 use Rattle.baseline.specs.Ordered.{keys-end, keysIn}
 use Rattle.baseline.specs.declared.Key.the-variants.{Nothing}
-use Rattle.in_order.specs.InOrder.{addedIn, latest}
-use Rattle.in_order.specs.KeyLines.{keyLines}
+use Rattle.listed_keys.specs.KeyLines.{bytes-step, count-step, keyLines, none-bytes}
+use Rattle.listed_keys.specs.Wholes.{note-keys, plain-count}
+use Rattle.in_order.specs.InOrder.{addedIn}
+use Rattle.in_order.specs.Passing.{come-all, come-end, come-line, come-small, toCome}
 use Rattle.in_order.specs.Paths.{Knows, knows-start}
-use Rattle.in_order.specs.Whole.{PlainTo, in-order-all, plain-next}
-use Rattle.in_order.specs.Passing.{bytes-step, come-all, come-end, come-line, come-small, count-step, none-bytes, toCome}
 use Rattle.in_order.specs.Rise.{Risen, risen-end, risen-next, risen-start}
-use Rattle.in_order.proofs.Wholes.{note-keys, plain-count}
+use Rattle.in_order.specs.Whole.{PlainTo, in-order-all, plain-next}
 use Rattle.in_order.proofs.measure.Statement.{statement}
 use Rattle.in_order.proofs.measure.Tie as tie
 

@@ -5,9 +5,8 @@ use lib.ListN.{length}
 use denote.Ref.{now}
 use borrow.Author.Needs.{needs}
 use Rattle.baseline.specs.Ordered.{keysIn}
-use Rattle.in_order.specs.KeyLines.{keyLines}
+use Rattle.listed_keys.specs.KeyLines.{keyLines, written-same}
 use Rattle.in_order.specs.StaleKeys.{staleIn}
-use Rattle.in_order.specs.Passing.{written-same}
 use Rattle.in_order.proofs.put_all.Statement.{statement}
 use Rattle.in_order.proofs.put_all.Tie as tie
 

@@ -6,11 +6,11 @@ use native.Mathlib.Omega.{arith}
 use lib.ListN.{length}
 use denote.Ref.{now}
 use Rattle.text_rules.specs.Bytes.{putAt}
+use Rattle.listed_keys.specs.KeyLines.{bytes-step, keyLines, none-bytes, put-end, put-step, written-length}
 use Rattle.in_order.specs.InOrder.{addedIn, latest}
-use Rattle.in_order.specs.KeyLines.{keyLines}
+use Rattle.in_order.specs.Passing.{come-all, come-end, come-line, toCome}
 use Rattle.in_order.specs.Paths.{Knows, knows-start}
 use Rattle.in_order.specs.StaleKeys.{staleIn}
-use Rattle.in_order.specs.Passing.{bytes-step, come-all, come-end, come-line, none-bytes, put-end, put-step, toCome, written-length}
 use Rattle.in_order.proofs.put_each.Statement.{statement}
 use Rattle.in_order.proofs.put_each.Tie as tie
 

@@ -1,5 +1,5 @@
 -- `in_order::put_line` meets its contract: a line adds its key, where it has one that adds something.
-use Prim.Native.Nat.{_+_, _≤_}
+use Prim.Native.Nat.{_+_}
 use mathlib.Core.Path.{ap, subst, sym, _∙_}
 use native.Mathlib.Omega.{arith}
 use lib.ListN.{length}
@@ -7,10 +7,10 @@ use denote.Ref.{now}
 use borrow.Author.Needs.{needs}
 use Rattle.text_rules.specs.Bytes.{putAt}
 use Rattle.baseline.specs.Reads.{KeyInside}
+use Rattle.key_lines.specs.Meets.{part-length}
+use Rattle.listed_keys.specs.KeyLines.{Written, keyLines, sizes-one, written-none}
 use Rattle.in_order.specs.InOrder.{latest}
-use Rattle.in_order.specs.KeyLines.{Written, keyLines}
-use Rattle.in_order.specs.Paths.{part-length}
-use Rattle.in_order.specs.Passing.{adds-key, adds-none, adds-nothing, sizes-one, written-none}
+use Rattle.in_order.specs.Passing.{adds-key, adds-none, adds-nothing}
 use Rattle.in_order.proofs.put_line.Statement.{statement}
 use Rattle.in_order.proofs.put_line.Tie as tie
 

@@ -1,11 +1,12 @@
 -- `in_order::run_at` meets its contract: the lines passed so far add what was counted, and each line behind them adds its key.
 use Prim.Native.Nat.{_-_}
-use mathlib.Core.Path.{_≡_, subst}
+use mathlib.Core.Path.{subst}
 use native.Mathlib.Omega.{arith}
 use lib.ListN.{length}
 use denote.Ref.{now}
 use borrow.Author.Needs.{needs}
-use Rattle.in_order.specs.Runs.{Passes, ReadNext}
+use Rattle.key_lines.specs.Next.{ReadNext}
+use Rattle.in_order.specs.Runs.{Passes}
 use Rattle.in_order.proofs.Runs.{passes-next, passes-none}
 use Rattle.in_order.proofs.run_at.Statement.{statement}
 use Rattle.in_order.proofs.run_at.Tie as tie

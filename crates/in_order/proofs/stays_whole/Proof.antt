@@ -1,5 +1,5 @@
 -- `in_order::stays_whole` meets its contract: each test leaves, unless it holds.
-use mathlib.Core.Path.{_≡_, refl}
+use mathlib.Core.Path.{refl}
 use lib.ListN.{getD}
 use denote.Ref.{now}
 use borrow.Author.Needs.{needs}

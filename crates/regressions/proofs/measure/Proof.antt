@@ -11,7 +11,7 @@ use Rattle.gate_rules.specs.Gate.{gate}
 use Rattle.gate_rules.specs.Scan.{functionsOf}
 use Rattle.gate_rules.specs.TreeLaws.{unrefused}
 use Rattle.functions.specs.Shown.{limitsOf, shown}
-use Rattle.regressions.specs.Lines.{accepts, lies-small}
+use Rattle.regression_sizes.specs.Lines.{accepts, lies-small}
 use Rattle.regressions.proofs.Left.{bytes-step, count-step, left, left-end, left-step, none-bytes}
 use Rattle.regressions.proofs.measure.Statement.{statement}
 use Rattle.regressions.proofs.measure.Tie as tie

@@ -5,7 +5,8 @@ use lib.ListN.{length}
 use denote.Ref.{now}
 use Rattle.gate_rules.specs.Check.{listed}
 use Rattle.functions.specs.Shown.{limitsOf, shown}
-use Rattle.regressions.specs.Lines.{accepts, written-as}
+use Rattle.regression_sizes.specs.Lines.{accepts}
+use Rattle.regressions.specs.Written.{written-as}
 use borrow.Author.Needs.{needs}
 use Rattle.regressions.proofs.put_against.Statement.{statement}
 use Rattle.regressions.proofs.put_against.Tie as tie

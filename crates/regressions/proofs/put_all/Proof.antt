@@ -12,7 +12,8 @@ use Rattle.gate_rules.specs.Check.{listed, regressions}
 use Rattle.gate_rules.specs.Gate.{gate}
 use Rattle.gate_rules.specs.Scan.{functionsOf}
 use Rattle.functions.specs.Shown.{limitsOf, shown}
-use Rattle.regressions.specs.Lines.{accepts, written-length}
+use Rattle.regression_sizes.specs.Lines.{accepts}
+use Rattle.regressions.specs.Written.{written-length}
 use Rattle.regressions.proofs.Left.{bytes-step, left, left-end, left-step, none-bytes, put-end, put-step}
 use Rattle.regressions.proofs.put_all.Statement.{statement}
 use Rattle.regressions.proofs.put_all.Tie as tie

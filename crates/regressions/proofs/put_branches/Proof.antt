@@ -5,7 +5,8 @@ use lib.ListN.{length}
 use denote.Ref.{now}
 use Rattle.gate_rules.specs.Check.{listed}
 use Rattle.functions.specs.Shown.{shown}
-use Rattle.regressions.specs.Lines.{branches-length, branches-none, branches-some, written-as, written-none, written-one}
+use Rattle.regression_sizes.specs.Lines.{branches-length, branches-none, branches-some}
+use Rattle.regressions.specs.Written.{written-as, written-none, written-one}
 use borrow.Author.Needs.{needs}
 use Rattle.regressions.proofs.put_branches.Statement.{statement}
 use Rattle.regressions.proofs.put_branches.Tie as tie

@@ -2,7 +2,8 @@
 use native.Mathlib.Omega.{arith}
 use denote.Ref.{now}
 use Rattle.functions.specs.Shown.{shown}
-use Rattle.regressions.specs.Lines.{both-length, branchesOf, linesOf, written-both}
+use Rattle.regression_sizes.specs.Lines.{both-length, branchesOf, linesOf}
+use Rattle.regressions.specs.Written.{written-both}
 use borrow.Author.Needs.{needs}
 use Rattle.regressions.proofs.put_grown.Statement.{statement}
 use Rattle.regressions.proofs.put_grown.Tie as tie

@@ -4,7 +4,7 @@ use native.Mathlib.Omega.{arith}
 use denote.Ref.{now}
 use Rattle.text_rules.specs.Decimal.{decimal}
 use Rattle.text_rules.specs.WriterLaws.{Puts, puts-all, puts-none, puts-then}
-use Rattle.regressions.specs.Lines.{pair-length}
+use Rattle.regression_sizes.specs.Lines.{pair-length}
 use borrow.Author.Needs.{needs}
 use Rattle.regressions.proofs.put_pair.Statement.{statement}
 use Rattle.regressions.proofs.put_pair.Tie as tie

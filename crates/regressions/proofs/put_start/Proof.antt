@@ -8,7 +8,7 @@ use Rattle.text_rules.specs.Bytes.{ascii, putAt}
 use Rattle.text_rules.specs.WriterLaws.{Puts, puts-all, puts-none, puts-sized, puts-then}
 use Rattle.functions.specs.Shown.{shown}
 use Rattle.listing.specs.Texts.{located, located-length}
-use Rattle.regressions.specs.Lines.{started-is, started-length}
+use Rattle.regression_sizes.specs.Lines.{started-is, started-length}
 use borrow.Author.Needs.{needs}
 use Rattle.regressions.proofs.put_start.Statement.{statement}
 use Rattle.regressions.proofs.put_start.Tie as tie

@@ -1,0 +1,3 @@
+pub mod KeyLines
+pub mod Plain
+pub mod Wholes
