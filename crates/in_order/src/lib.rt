@@ -12,10 +12,13 @@ ghost use Rattle.text_rules.specs.Utf8.{isUtf8};
 ghost use Rattle.gate_rules.specs.Functions.{key};
 ghost use Rattle.gate_rules.specs.Gate.{gate};
 ghost use Rattle.gate_rules.specs.Scan.{functionsOf};
+ghost use Rattle.prefix.specs.Common.{commonWith};
 ghost use Rattle.baseline.specs.Ordered.{Unfalling, keysIn};
+ghost use Rattle.baseline.specs.Plain.{PlainKey};
 ghost use Rattle.baseline.specs.Reads.{KeyInside, keyIn};
 ghost use Rattle.baseline.specs.declared.Key.the-variants.{Bytes};
 ghost use Rattle.key_lines.specs.Meets.{Finds, repeats};
+ghost use Rattle.key_lines.specs.Next.{Behind, ReadNext};
 ghost use Rattle.listed_keys.specs.KeyLines.{Sizes, Written, keyLines};
 ghost use Rattle.in_order.specs.InOrder.{addedIn, latest};
 ghost use Rattle.in_order.specs.Paths.{Knows};
@@ -168,6 +171,55 @@ fn put_line(
     }
 }
 
+// Whether a line goes on behind the last key where the two differ, or where the key ends.
+fn is_behind(lines: &[u8], last: Key, from: usize, common: usize) -> bool
+    requires { ⌜
+        KeyInside (now lines) last
+        × (from < length (now lines))
+        × (common ≡ commonWith (keyIn (now lines) last) (part from (length (now lines)) (now lines)))
+        ⌝ }
+    ensures { λ r. ⌜ (r ≡ true → Behind (now (lines .entry)) last from common) ⌝ }
+{
+    match last {
+        Key::Bytes(a, b) => {
+            if lines.len() - from <= common {
+                return false;
+            }
+            if b - a <= common {
+                return lines[from + common] != b'\t';
+            }
+            lines[a + common] < lines[from + common]
+        }
+        Key::Nothing => false,
+    }
+}
+
+// The line at a place, where it is plain, no function has the path of the last key, and the line has that path and a key behind the last one.
+fn next_line(lines: &[u8], last: Last, from: usize) -> Plain
+    requires { ⌜
+        KeyInside (now lines) (last .key)
+        × (last .plain ≡ true → PlainKey (now lines) (last .key) (last .path))
+        × (from < length (now lines))
+        ⌝ }
+    ensures { λ r. ⌜ ReadNext (now (lines .entry)) last from r ⌝ }
+{
+    if !last.plain {
+        return Plain::Other;
+    }
+    if last.from < last.to {
+        return Plain::Other;
+    }
+    let key = last.key;
+    let common = key_lines::common_with(lines, key, from, lines.len());
+    if common <= last.path {
+        return Plain::Other;
+    }
+    if !is_behind(lines, key, from, common) {
+        return Plain::Other;
+    }
+    baseline::plain_rest(lines, from, from + last.path, from + common)
+}
+
 // What is known of the last key behind some lines, where these end, how many keys they add, and the bytes of the lines of these.
 struct Run {
     last: Last,
@@ -186,7 +238,7 @@ fn run_at(tree: &[u8], lines: &[u8], start: Last, place: usize) -> Run
     let mut count: usize = 0;
     let mut bytes: usize = 0;
     while from < lines.len() {
-        match key_lines::next_line(lines, last, from) {
+        match next_line(lines, last, from) {
             Plain::Line(l) => {
                 let seen = Last {
                     key: Key::Bytes(from, l.name),

@@ -13,11 +13,8 @@ ghost use Rattle.baseline.specs.Plain.{PlainKey, ReadPlain};
 ghost use Rattle.baseline.specs.Reads.{KeyInside, keyIn, keyOfEntry};
 ghost use Rattle.baseline.specs.declared.Key.the-variants.{Bytes};
 ghost use Rattle.key_lines.specs.Meets.{Finds, OfLine, PathLength, repeats};
-ghost use Rattle.key_lines.specs.Next.{Behind, ReadNext};
 use baseline::Key;
 use baseline::Plain;
-
-const TAB: u8 = b'\t';
 
 // The last key, the bytes of its path, and the functions that may have a key with that path, from one number up to another. A plain key is known to have
 // one tab and no LF.
@@ -49,7 +46,7 @@ fn least(a: usize, b: usize) -> usize
 }
 
 // How many bytes a line has in common with the last key.
-fn common_with(lines: &[u8], last: Key, from: usize, to: usize) -> usize
+pub fn common_with(lines: &[u8], last: Key, from: usize, to: usize) -> usize
     requires { ⌜ KeyInside (now lines) last × (from ≤ to) × (to ≤ length (now lines)) ⌝ }
     ensures { λ r. ⌜ r ≡ commonWith (keyIn (now (lines .entry)) last) (part from to (now (lines .entry))) ⌝ }
 {
@@ -196,53 +193,4 @@ pub fn is_last(lines: &[u8], last: Key, here: Found, from: usize, to: usize) -> 
         }
         Key::Nothing => false,
     }
-}
-
-// Whether a line goes on behind the last key where the two differ, or where the key ends.
-fn is_behind(lines: &[u8], last: Key, from: usize, common: usize) -> bool
-    requires { ⌜
-        KeyInside (now lines) last
-        × (from < length (now lines))
-        × (common ≡ commonWith (keyIn (now lines) last) (part from (length (now lines)) (now lines)))
-        ⌝ }
-    ensures { λ r. ⌜ (r ≡ true → Behind (now (lines .entry)) last from common) ⌝ }
-{
-    match last {
-        Key::Bytes(a, b) => {
-            if lines.len() - from <= common {
-                return false;
-            }
-            if b - a <= common {
-                return lines[from + common] != TAB;
-            }
-            lines[a + common] < lines[from + common]
-        }
-        Key::Nothing => false,
-    }
-}
-
-// The line at a place, where it is plain, no function has the path of the last key, and the line has that path and a key behind the last one.
-pub fn next_line(lines: &[u8], last: Last, from: usize) -> Plain
-    requires { ⌜
-        KeyInside (now lines) (last .key)
-        × (last .plain ≡ true → PlainKey (now lines) (last .key) (last .path))
-        × (from < length (now lines))
-        ⌝ }
-    ensures { λ r. ⌜ ReadNext (now (lines .entry)) last from r ⌝ }
-{
-    if !last.plain {
-        return Plain::Other;
-    }
-    if last.from < last.to {
-        return Plain::Other;
-    }
-    let key = last.key;
-    let common = common_with(lines, key, from, lines.len());
-    if common <= last.path {
-        return Plain::Other;
-    }
-    if !is_behind(lines, key, from, common) {
-        return Plain::Other;
-    }
-    baseline::plain_rest(lines, from, from + last.path, from + common)
 }

@@ -1,4 +1,4 @@
--- `key_lines::is_behind` meets its contract: each answer is one of the tests of the definition, and the other does not apply.
+-- `in_order::is_behind` meets its contract: each answer is one of the tests of the definition, and the other does not apply.
 use Prim.Native.Nat.{_+_}
 use mathlib.Core.Path.{refl, subst, sym}
 use native.Mathlib.Omega.{arith}
@@ -9,9 +9,9 @@ use borrow.Author.Tests.{eqb-false, ltb-true, not-true}
 use Rattle.text_rules.specs.BytesLaws.{true-false}
 use Rattle.text_rules.specs.Classes.{tab}
 use Rattle.baseline.specs.Reads.{KeyInside}
 use Rattle.key_lines.specs.Next.{Behind}
-use Rattle.key_lines.proofs.is_behind.Statement.{statement}
-use Rattle.key_lines.proofs.is_behind.Tie as tie
+use Rattle.in_order.proofs.is_behind.Statement.{statement}
+use Rattle.in_order.proofs.is_behind.Tie as tie
 
 sub-if2 : tie.Need-sub-if2
 sub-if2 c =

@@ -1,12 +1,12 @@
--- `key_lines::next_line` meets its contract: a line that begins with the path and the tab of a plain key goes on with the text that it has in common with it.
+-- `in_order::next_line` meets its contract: a line that begins with the path and the tab of a plain key goes on with the text that it has in common with it.
 use native.Mathlib.Omega.{arith}
 use denote.Ref.{now}
 use borrow.Author.Needs.{needs}
 use borrow.Author.Tests.{not-false}
 use Rattle.key_lines.specs.Next.{next-read}
 use Rattle.key_lines.specs.PlainKeys.{line-front}
-use Rattle.key_lines.proofs.next_line.Statement.{statement}
-use Rattle.key_lines.proofs.next_line.Tie as tie
+use Rattle.in_order.proofs.next_line.Statement.{statement}
+use Rattle.in_order.proofs.next_line.Tie as tie
 
 add-plain-rest : tie.Need-add-plain-rest
 add-plain-rest c =
