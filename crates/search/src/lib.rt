@@ -143,14 +143,14 @@ fn further(length: usize, from: usize) -> usize
 }
 
 // What is known after a bracket before `from` was found to have no partner. The text is read to its end again only where the place that is
-// known is too far on, or behind.
+// known is behind, or twice as far on as a new one would be: so brackets that are sought from the last to the first do not each cost a pass.
 fn looked_further(s: &[u8], opening: u8, closing: u8, from: usize, u: Unclosed) -> Unclosed
     requires { ⌜ (opening ≢ closing) × (from ≤ length (now s)) × Knows opening closing (now s) u ⌝ }
     ensures { λ r. ⌜ Knows opening closing (now (s .entry)) r ⌝ }
 {
     let at = further(s.len(), from);
     if from <= u.at {
-        if u.at <= at {
+        if u.at <= further(s.len(), at) {
             return u;
         }
     }
