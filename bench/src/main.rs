@@ -190,7 +190,7 @@ fn rows(real: &Real) -> Vec<(Input<'_>, Call)> {
     rows.push((Input::Behind("fn a() ", "", "{ {}"), Call::Scan));
     rows.push((Input::Behind("[fn a()];", "", "fn b(){}"), Call::Scan));
     rows.push((Input::Behind("fn a() [;] ];[", "", "]fn b(){}"), Call::Scan));
-    rows.extend([(70, 3), (25, 42), (1_000, 8)].map(|(brackets, signatures)| (Input::Spread(brackets, signatures), Call::Scan)));
+    rows.extend([(70, 3), (25, 42), (1_000, 8), (33, 1), (300, 4)].map(|(brackets, signatures)| (Input::Spread(brackets, signatures), Call::Scan)));
     rows
 }
 

@@ -59,6 +59,7 @@ impl Input<'_> {
             Input::Nested(front, back) => format!("`{front}` and as many `{back}`, 128 KB"),
             Input::Behind(front, "", tail) => format!("`{front}` to 128 KB, then `{tail}`"),
             Input::Behind(front, back, tail) => format!("`{front}` and one `{back}` fewer, 128 KB, then `{tail}`"),
+            Input::Spread(brackets, 1) => format!("`fn a()` and {brackets} `[<>]`, then `;`, to 128 KB, then `{{ {{}}`"),
             Input::Spread(brackets, signatures) => format!("{signatures} times `fn a()` and {brackets} `[<>]`, then `;`, to 128 KB, then `{{ {{}}`"),
         }
     }
