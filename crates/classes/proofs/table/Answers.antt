@@ -9,8 +9,7 @@ use lib.ListN.{get_or, length}
 use Rattle.text_rules.specs.Classes.{class_of}
 use Rattle.classes.specs.Lent.{IsTable}
 use Rattle.classes.proofs.Computed.{at, every}
-use Rattle.classes.proofs.table.Statement.{statement}
-use Rattle.classes.proofs.table.Tie as tie
+use Rattle.classes.proofs.table.Goals as goal
 
 right : ℕ → ℕ → Bool
 unfolding class_of
@@ -20,9 +19,6 @@ is-table : (t : List ℕ) → T (every right 0 t) → length t ≡ 256 → IsTab
 unfolding right
 is-table t e n = record { class_at = λ k h. eqb→eq (get_or t k 0) (class_of k) (at right t e k (omega arith)) }
 
-returns : tie.Need-returns
+pub returns : goal.returns
 unfolding right
 returns c = is-table _ tt refl
-
-pub table-spec : {M : Type 1} → statement M
-table-spec = tie.close (tie.spec returns)
