@@ -1,5 +1,7 @@
 // Angle brackets that are open while some searches go on, in groups. A search is inside those that were opened since it began, and how many these are is
 // told for all searches together.
+#![tactic(auto)]
+
 ghost use Rattle.std.specs.Prelude.{◌≡◌, List, ℕ, ◌+◌, ◌≤◌, ◌<◌, length, set};
 ghost use Rattle.source_rules.specs.Finding.{angle_after};
 ghost use Rattle.angles.specs.Angles.{Stack, Turned, above, boundary_of, less, more};

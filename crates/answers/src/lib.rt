@@ -1,4 +1,6 @@
 // The answer that blank, scan and report hand back.
+#![tactic(auto)]
+
 ghost use Rattle.std.specs.Prelude.{◌≡◌};
 
 // The number is 0 on success, and else says what was refused.

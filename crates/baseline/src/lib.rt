@@ -1,4 +1,6 @@
 // The baseline: its lines and their fields by their bounds, its numbers and its keys. Nothing is copied.
+#![tactic(auto)]
+
 ghost use Rattle.std.specs.Prelude.{◌≡◌, true, ◌+◌, ◌*◌, ◌-◌, ◌≤◌, ◌<◌, leb, length, drop, get_or};
 ghost use Rattle.text_rules.specs.Bytes.{same};
 ghost use Rattle.text_rules.specs.Classes.{is_digit, lf, tab};

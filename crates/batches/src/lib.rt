@@ -1,5 +1,7 @@
 // The stale keys of a baseline whose keys stand in any order. A pass over its lines gathers the first 8,192 of them behind the last one taken, in byte
 // order and each once; so many keys are taken in one pass. Keys stay where they are, in the lines: two lent arrays hold where they start and end.
+#![tactic(auto)]
+
 ghost use Rattle.std.specs.Prelude.{◌≡◌, true, ◌||◌, [], ◌∷◌, map, ◌+◌, ◌≤◌, ltb, length, get_or, take};
 ghost use Rattle.text_rules.specs.Bytes.{before, kept};
 ghost use Rattle.text_rules.specs.Search.{part};

@@ -1,6 +1,8 @@
 // Blanking of Rust source text: comments and literals become spaces, newlines stay.
 // A token is first measured (`tokens`) and then written as spaces; blocks in which none begins are copied whole. Each byte is passed a bounded
 // number of times.
+#![tactic(auto)]
+
 ghost use Rattle.std.specs.Prelude.{◌≡◌, true, ◌++◌, ◌+◌, ◌≤◌, ◌<◌, length, take, drop};
 ghost use Rattle.text_rules.specs.Search.{part};
 ghost use Rattle.source_rules.specs.Blank.{blanked, put};

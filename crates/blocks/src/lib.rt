@@ -1,5 +1,7 @@
 // Sixteen bytes of a text, asked at once: the compiler makes a few instructions of each loop here, so a text is passed over by blocks as long as
 // nothing begins in them. A byte of the block that its caller read before keeps the compiler from that, so callers ask blocks in a loop of their own.
+#![tactic(auto)]
+
 ghost use Rattle.std.specs.Prelude.{◌≡◌, true, ◌+◌, ◌≤◌, length, drop};
 ghost use Rattle.text_rules.specs.Search.{bytes_before};
 ghost use Rattle.blocks.specs.Blocks.{Below, Lacks, count_from};

@@ -1,5 +1,7 @@
 // What some searches for a body find. Searches for the brace that opens a body, behind a list of parameters, may each read far. So those that begin at
 // some places are made together, in one walk over the text. It passes a chunk in which no search begins or ends without reading it.
+#![tactic(auto)]
+
 ghost use Rattle.std.specs.Prelude.{◌≡◌, true, false, ◌≢◌, ℕ, ◌+◌, ◌-◌, ◌≤◌, ◌<◌, length, get_or};
 ghost use Rattle.chunks.specs.Passing.{Summary};
 ghost use Rattle.chunks.specs.Table.{Summed};

@@ -1,4 +1,6 @@
 // The two texts of check's listing, that about the stale entries and the verdict: how many bytes they take, and their writers.
+#![tactic(auto)]
+
 ghost use Rattle.std.specs.Prelude.{◌≡◌, true, false, map, ◌+◌, ◌≤◌, length};
 ghost use Rattle.text_rules.specs.Bytes.{put_at};
 ghost use Rattle.gate_rules.specs.Check.{listed, spaced, stale_text, verdict_text};

@@ -1,5 +1,7 @@
 // What a chunk of a text, 4,096 bytes, does to the searches that pass it. Once many searches have gone far, the sums of all chunks are written into a
 // table, and a search passes a chunk in which it cannot end without reading it.
+#![tactic(auto)]
+
 ghost use Rattle.std.specs.Prelude.{◌≡◌, true, [], ◌∷◌, ◌+◌, ◌-◌, ◌≤◌, ◌<◌, min, max, length, get_or};
 ghost use Rattle.text_rules.specs.Classes.{angle_close, brace_open, semicolon};
 ghost use Rattle.flat.specs.Body.{Counted};

@@ -1,5 +1,7 @@
 // The classes of bytes, by one look at a table of 256. The compiler writes a `const` array to the stack where it is used, so a loop is lent a
 // table that was made before it.
+#![tactic(auto)]
+
 ghost use Rattle.std.specs.Prelude.{◌≡◌};
 ghost use Rattle.text_rules.specs.Classes.{class_of, is_letter, is_space, is_word};
 ghost use Rattle.classes.specs.Lent.{IsTable};

@@ -1,5 +1,7 @@
 // The calls for C hosts, on byte slices. Each returns the call's number: 0 on success, or what was refused. On success the counts are put into lent
 // bytes, four for each, the lowest first; a refusal leaves them as they were.
+#![tactic(auto)]
+
 ghost use Rattle.std.specs.Prelude.{◌≡◌, [], ◌∷◌, ◌≤◌, length};
 ghost use Rattle.text_rules.specs.Bytes.{◌or_else◌};
 ghost use Rattle.gate_rules.specs.Exports.{exported_blank, exported_check, exported_report, exported_scan, exported_update};

@@ -1,5 +1,7 @@
 // The check of the tree file on standard input against the baseline file, each of at most 65,536 bytes. A refusal is its number and a newline.
 // One byte more than that is read, so that a longer file shows.
+#![tactic(auto)]
+
 ghost use Rattle.std.specs.Prelude.{◌≡◌};
 ghost use Rattle.programs.specs.Lines.{Starts};
 ghost use Rattle.gate_rules.specs.Programs.{check_program};

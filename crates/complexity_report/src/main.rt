@@ -1,5 +1,7 @@
 // The report of the tree file on standard input, of at most 65,536 bytes. A refusal is its number and a newline. One byte more than that is read, so
 // that a longer tree shows.
+#![tactic(auto)]
+
 ghost use Rattle.std.specs.Prelude.{◌≡◌};
 ghost use Rattle.gate_rules.specs.Programs.{report_program};
 ghost use Rattle.gate_rules.specs.Programs.{lent as zeros};

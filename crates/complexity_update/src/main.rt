@@ -1,5 +1,7 @@
 // Writes the baseline of the tree file on standard input, of at most 65,536 bytes, and prints how many functions it records. A refusal is its number and
 // a newline, and nothing is written. One byte more than that is read, so that a longer tree shows.
+#![tactic(auto)]
+
 ghost use Rattle.std.specs.Prelude.{◌≤◌, ◌≡◌, length, take};
 ghost use Rattle.io.specs.Counts.{IsPrefixLen};
 ghost use Rattle.gate_rules.specs.Programs.{update_file, update_program, written_at};

@@ -1,5 +1,7 @@
 // The search for the brace that opens a body: the first `{` that is flat, at angle and square depth 0, if no `;` is flat before it. Blocks of sixteen
 // bytes in which it cannot end are passed.
+#![tactic(auto)]
+
 ghost use Rattle.std.specs.Prelude.{◌≡◌, ◌⊎◌, true, ◌+◌, ◌-◌, ◌≤◌, ◌<◌, min, length};
 ghost use Rattle.text_rules.specs.Search.{count_after};
 ghost use Rattle.source_rules.specs.Finding.{flat};

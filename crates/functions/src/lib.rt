@@ -1,4 +1,6 @@
 // The functions of a scanned tree, read back from their records: path and name by their bounds in the tree, and the numbers. Nothing is copied.
+#![tactic(auto)]
+
 ghost use Rattle.std.specs.Prelude.{◌≡◌, List, ℕ, ◌<◌, length, get_or};
 ghost use Rattle.gate_rules.specs.Functions.{gate_limits, over};
 ghost use Rattle.gate_rules.specs.Gate.{gate};

@@ -1,5 +1,7 @@
 // The call check: the functions of a tree against what the baseline accepts, and a listing of what got worse and of what is stale.
 // A baseline that is too long is refused before the tree is scanned. How long the listing is, is known before any of it is written.
+#![tactic(auto)]
+
 ghost use Rattle.std.specs.Prelude.{◌≡◌, true, ◌≤◌, ltb, length, take};
 ghost use Rattle.text_rules.specs.Bytes.{◌or_else◌, ◌when◌};
 ghost use Rattle.text_rules.specs.Utf8.{is_utf8};

@@ -1,4 +1,6 @@
 // The report: how many functions a tree has, their mean, the rows of those over the limits, the ten heaviest files, and a table of sums.
+#![tactic(auto)]
+
 ghost use Rattle.std.specs.Prelude.{◌≡◌, List, map, ℕ, ◌+◌, ◌≤◌, length};
 ghost use Rattle.text_rules.specs.Bytes.{overwritten, put_at};
 ghost use Rattle.gate_rules.specs.Functions.{gate_limits};

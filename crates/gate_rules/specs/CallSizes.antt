@@ -10,14 +10,13 @@ use Rattle.source_rules.specs.BlankCall.{blank_call, blank_number}
 use Rattle.gate_rules.specs.Baseline.{Entry, entries}
 use Rattle.gate_rules.specs.CallLaws.{checked_accepted, reported-accepted, scanned_accepted, updating_accepted}
 use Rattle.gate_rules.specs.Calls.{CheckAnswer, UpdateAnswer, check_answer, check_call, check_number, scan_call, scan_number, update_answer, update_call, update_number}
-use Rattle.gate_rules.specs.Check.{stale}
 use Rattle.gate_rules.specs.Functions.{Fun, Limits}
 use Rattle.gate_rules.specs.Gate.{gate}
 use Rattle.gate_rules.specs.ListingSizes.{baseline-length, listing-length, recorded-most, regressed-most, report-length, stale-count}
 use Rattle.gate_rules.specs.Report.{FileSum}
 use Rattle.gate_rules.specs.ReportCall.{report_call, report_number, report_of}
 use Rattle.gate_rules.specs.Scan.{functions_of}
-use Rattle.gate_rules.specs.Update.{baseline_text, recorded}
+use Rattle.gate_rules.specs.Update.{baseline_text}
 
 -- what blank, scan and report answer
 pub record AnswerFits (a : Answer) : Type 0 where

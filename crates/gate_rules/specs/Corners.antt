@@ -2,9 +2,7 @@
 use Rattle.std.specs.Prelude.{ℕ, ◌≡◌, refl, List, [], ◌∷◌, map, replicate}
 use Rattle.std.proofs.Math.Option.{some}
 use Rattle.text_rules.specs.Bytes.{ascii}
-use Rattle.text_rules.specs.Search.{run}
 use Rattle.source_rules.specs.TextCorners.{TextCorners, text-corners}
-use Rattle.source_rules.specs.TextScan.{functions}
 use Rattle.gate_rules.specs.Baseline.{Entry, entries, lookup}
 use Rattle.gate_rules.specs.Calls.{update_answer}
 use Rattle.gate_rules.specs.Check.{listing, stale}

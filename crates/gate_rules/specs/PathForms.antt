@@ -1,5 +1,5 @@
 -- Paths byte by byte, as a loop over two of them needs it.
-use Rattle.std.specs.Prelude.{ℕ, suc, ◌+◌, ◌<◌, ◌≤◌, ◌≡◌, true, ◌&&◌, ◌||◌, eqb, ltb, length, drop, get_or}
+use Rattle.std.specs.Prelude.{ℕ, ◌+◌, ◌<◌, ◌≤◌, ◌≡◌, true, ◌&&◌, ◌||◌, eqb, ltb, length, drop, get_or}
 use Rattle.std.proofs.Math.Path.{refl, ap, ap₂}
 use Rattle.std.proofs.Common.{◌∙◌, arith, eq-eqb, le-ltb, lt-ltb, ne_eqb, drop_of_length-le}
 use Rattle.std.proofs.Math.Bool.{false}

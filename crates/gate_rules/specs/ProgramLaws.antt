@@ -1,7 +1,7 @@
 -- What the programs print for what they cannot take: a longer tree prints 1, a longer baseline 7 where the tree itself is not refused.
-use Rattle.std.specs.Prelude.{ℕ, ◌≤◌, ◌<◌, ◌≡◌, List, ◌++◌, length}
+use Rattle.std.specs.Prelude.{ℕ, ◌≤◌, ◌<◌, ◌≡◌, List, length}
 use Rattle.std.proofs.Math.Option.{none}
-use Rattle.std.proofs.Common.{arith, le-ltb, lt-ltb}
+use Rattle.std.proofs.Common.{le-ltb, lt-ltb}
 use Rattle.text_rules.specs.Bytes.{ascii}
 use Rattle.text_rules.specs.Decimal.{decimal, digits}
 use Rattle.gate_rules.specs.Programs.{check_program, program_bytes, report_program, update_file, update_program}

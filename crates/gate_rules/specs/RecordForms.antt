@@ -1,6 +1,6 @@
 -- Records written one after another, as a loop over the functions needs it: each at its place while there is room, and none beyond.
-use Rattle.std.specs.Prelude.{ℕ, zero, suc, ◌+◌, ◌*◌, ◌-◌, ◌/◌, ◌≤◌, ◌<◌, min, ◌≡◌, refl, true, false, List, [], ◌++◌, ◌∷◌, ltb, drop, length, take}
-use Rattle.std.proofs.Common.{ap, ap₂, sym, ◌∙◌, subst, inl, inr, append_assoc, arith, le-ltb, lt-ltb, ltb-false, ltb-true}
+use Rattle.std.specs.Prelude.{ℕ, zero, suc, ◌+◌, ◌*◌, ◌-◌, ◌/◌, ◌≤◌, ◌<◌, min, ◌≡◌, refl, true, List, [], ◌++◌, ◌∷◌, ltb, drop, length, take}
+use Rattle.std.proofs.Common.{ap, ap₂, sym, ◌∙◌, inl, inr, arith, le-ltb, lt-ltb, ltb-false, ltb-true}
 use Rattle.text_rules.specs.Bytes.{All, if◌then◌else◌, joined, overwritten, put_at}
 use Rattle.text_rules.specs.BytesLaws.{whether}
 use Rattle.text_rules.specs.PutLaws.{put-length, put_next}

@@ -1,5 +1,5 @@
 -- The rows of update and of the report, and the heaviest files: sorted, stable and complete, each in one statement.
-use Rattle.std.specs.Prelude.{ℕ, ◌≡◌, refl, ◌↔◌, Bool, true, List, take}
+use Rattle.std.specs.Prelude.{◌≡◌, refl, ◌↔◌, Bool, true, List, take}
 use Rattle.text_rules.specs.ByteOrder.{Orders}
 use Rattle.text_rules.specs.Bytes.{◌∈◌}
 use Rattle.text_rules.specs.BytesLaws.{kept_iff}

@@ -1,6 +1,6 @@
 -- The scan of a tree, left open: `Scan` says what it gives, and `ScanLaws` the few facts of it that the promises rest on.
 -- The gate's own scan is `gate`.
-use Rattle.std.specs.Prelude.{ℕ, ◌≤◌, ◌<◌, ◌≡◌, Bool, true, false, ◌||◌, List, [], ◌∷◌, ◌++◌, length}
+use Rattle.std.specs.Prelude.{ℕ, ◌≤◌, ◌<◌, ◌≡◌, true, false, List, length}
 use Rattle.text_rules.specs.Bytes.{All, Lacks, Plain, total}
 use Rattle.text_rules.specs.Classes.{lf, tab}
 use Rattle.text_rules.specs.Sizes.{max_functions, max_path, max_tree}

@@ -4,7 +4,6 @@ use Rattle.std.specs.Prelude.{ℕ, ◌≡◌, refl, true, List, [], ◌∷◌, r
 use Rattle.std.proofs.Common.{subst, sym}
 use mathlib.Core.List.Memᴰ
 use Rattle.text_rules.specs.Bytes.{◌∈◌, ascii}
-use Rattle.text_rules.specs.Search.{has}
 use Rattle.gate_rules.specs.Baseline.{entries}
 use Rattle.gate_rules.specs.Calls.{Updated, update_call}
 use Rattle.gate_rules.specs.Check.{regressions}

@@ -1,4 +1,6 @@
 // The scan of a tree: its texts blanked into work, its functions written as records.
+#![tactic(auto)]
+
 ghost use Rattle.std.specs.Prelude.{◌≡◌, true, map, ◌+◌, ◌/◌, ◌<◌, ◌≤◌, min, length};
 ghost use Rattle.source_rules.specs.TextScan.{functions};
 ghost use Rattle.gate_rules.specs.RecordForms.{put_record, put_records};

@@ -1,4 +1,6 @@
 // The update: a tree is scanned, and the functions over the limits are written as the rows of a baseline.
+#![tactic(auto)]
+
 ghost use Rattle.std.specs.Prelude.{◌≡◌};
 ghost use Rattle.gate_rules.specs.Calls.{update_call};
 ghost use Rattle.gate_rules.specs.Functions.{gate_limits};

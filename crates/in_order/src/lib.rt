@@ -1,5 +1,7 @@
 // The stale keys of a baseline whose keys never fall, as in a file that update wrote: those of entries that no function of the tree has, each once. They
 // stand there in the order in which they are listed, so one pass measures them, and one writes them.
+#![tactic(auto)]
+
 ghost use Rattle.std.specs.Prelude.{◌≡◌, map, ◌+◌, ◌≤◌, ◌<◌, true, ◌||◌, ◌≢◌, length, get_or};
 ghost use Rattle.text_rules.specs.Bytes.{among};
 ghost use Rattle.text_rules.specs.Search.{part};

@@ -1,5 +1,7 @@
 // The lines of a baseline one behind another: the key of a line, and how it stands to the last key in front of it. What a line has in common with the last
 // key is not read again.
+#![tactic(auto)]
+
 ghost use Rattle.std.specs.Prelude.{◌≡◌, ◌≤◌, ◌<◌, min, true, false, length};
 ghost use Rattle.text_rules.specs.Classes.{tab};
 ghost use Rattle.text_rules.specs.Search.{bytes_before, part};

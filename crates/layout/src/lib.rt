@@ -1,4 +1,6 @@
 // The layout of a tree file: its entries one behind another, and where the path and the text of each file stand.
+#![tactic(auto)]
+
 ghost use Rattle.std.specs.Prelude.{◌≡◌, true, ◌+◌, ◌<◌, ◌≤◌, length};
 ghost use Rattle.text_rules.specs.U32.{u32_at};
 ghost use Rattle.gate_rules.specs.Tree.{entry_at, entry_fits, file_count, is_laid_out, path_length, path_offset, text_length, text_offset};

@@ -1,4 +1,6 @@
 // The lines of keys in a listing: that of one key, and those of all keys of a baseline whose lines are plain, copied as they are found.
+#![tactic(auto)]
+
 ghost use Rattle.std.specs.Prelude.{◌≡◌, [], ◌∷◌, ◌+◌, ◌-◌, ◌≤◌, ◌<◌, length, drop};
 ghost use Rattle.text_rules.specs.Bytes.{put_at};
 ghost use Rattle.text_rules.specs.Classes.{tab};

@@ -1,5 +1,7 @@
 // Texts and numbers written straight into the output. Each writer puts its own bytes from `at` on, changes no other byte and returns the place behind.
 // Each length is known before anything is written, so a caller can refuse an output that is too short and leave it as it was.
+#![tactic(auto)]
+
 ghost use Rattle.std.specs.Prelude.{◌≡◌, ◌+◌, ◌-◌, ◌≤◌, max, eqb, length, replicate};
 ghost use Rattle.text_rules.specs.Bytes.{if◌then◌else◌, put_at};
 ghost use Rattle.text_rules.specs.Classes.{space, tab};

@@ -1,4 +1,6 @@
 // Whether a function of a scanned tree has a key. Functions stand in the order of their paths, so those that may have it are found by halves.
+#![tactic(auto)]
+
 ghost use Rattle.std.specs.Prelude.{◌≡◌, true, false, List, map, ℕ, ◌≤◌, ◌<◌, length, get_or};
 ghost use Rattle.text_rules.specs.Bytes.{among, same};
 ghost use Rattle.gate_rules.specs.Functions.{key};

@@ -1,4 +1,6 @@
 // The look-up of a function's key in a baseline whose keys never fall: by halves, and then line by line. Nothing is copied.
+#![tactic(auto)]
+
 ghost use Rattle.std.specs.Prelude.{◌≡◌, false, ◌≤◌, ◌<◌, length};
 ghost use Rattle.std.proofs.Math.Option.{none};
 ghost use Rattle.text_rules.specs.Bytes.{before};

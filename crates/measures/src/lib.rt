@@ -1,6 +1,8 @@
 // What is measured of a function's body: the cyclomatic number, the nesting and the lines.
 // A body is walked by whole pieces, so that `iffy` is not read as `if`: `walk_from` finds its end and its measures in one pass, `walk` is given a body
 // that was found.
+#![tactic(auto)]
+
 ghost use Rattle.std.specs.Prelude.{◌≡◌, false, true, [], ◌∷◌, suc, ◌+◌, ◌≤◌, ◌<◌, max, length, drop, get_or};
 ghost use Rattle.text_rules.specs.Bytes.{among, ascii, if◌then◌else◌, same};
 ghost use Rattle.text_rules.specs.Classes.{brace_open, is_letter, is_word};

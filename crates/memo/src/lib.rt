@@ -1,5 +1,7 @@
 // What the last long searches for a body found, each kept by what it has counted at one place of the text. A search that comes to that place at the same
 // depths finds the same, and is not made again.
+#![tactic(auto)]
+
 ghost use Rattle.std.specs.Prelude.{◌≡◌, true, ◌≢◌, ℕ, ◌+◌, ◌≤◌, ◌<◌, length, get_or};
 ghost use Rattle.flat.specs.Body.{Counted, Reaches, body_from};
 ghost use Rattle.chunks.specs.Table.{Summed};

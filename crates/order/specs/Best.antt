@@ -22,6 +22,7 @@ module _ {B : Type 0} where
   pub front_in : (xs ys : List B) {z : B} → z ∈ xs → z ∈ xs ++ ys
   front_in (x ∷ xs) ys (Memᴰ.head q) = Memᴰ.head q
   front_in (x ∷ xs) ys (Memᴰ.tail m) = Memᴰ.tail (front_in xs ys m)
+  front_in [] ys m = elim m [ ]
 
   pub back_in : (xs ys : List B) {z : B} → z ∈ ys → z ∈ xs ++ ys
   back_in [] ys m = m

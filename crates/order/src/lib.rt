@@ -1,4 +1,6 @@
 // Two texts compared byte by byte: whether they are the same, and which stands first in byte order.
+#![tactic(auto)]
+
 ghost use Rattle.std.specs.Prelude.{◌≡◌};
 ghost use Rattle.text_rules.specs.Bytes.{before, same};
 

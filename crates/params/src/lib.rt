@@ -1,5 +1,7 @@
 // The parameters of a function, counted in the text between the brackets of its list: the parts between the commas outside all inner brackets, without
 // `self`. A list is counted between its first and its last byte that are not of white space.
+#![tactic(auto)]
+
 ghost use Rattle.std.specs.Prelude.{◌≡◌, ◌||◌, ◌+◌, ◌-◌, ◌≤◌, ◌<◌, eqb, length};
 ghost use Rattle.text_rules.specs.Classes.{comma};
 ghost use Rattle.text_rules.specs.Search.{ends_in, starts_with};

@@ -1,5 +1,7 @@
 // What is noted of the brackets of a part of a text: where the list of parameters that each opens ends, and where the body behind it begins. One pass over
 // the text tells them for all brackets of the part.
+#![tactic(auto)]
+
 ghost use Rattle.std.specs.Prelude.{◌≡◌, ◌+◌, ◌≤◌, ◌<◌, length};
 ghost use Rattle.chunks.specs.Table.{Summed};
 ghost use Rattle.bodies.specs.Bodies.{Finds};

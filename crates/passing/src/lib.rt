@@ -1,5 +1,7 @@
 // Bytes of a text are passed, those that are neither of two, or any, and the lines that end among them are counted. Sixteen bytes are asked at once
 // where they can be.
+#![tactic(auto)]
+
 ghost use Rattle.std.specs.Prelude.{◌≡◌, true, ◌+◌, ◌≤◌, length};
 ghost use Rattle.blocks.specs.Blocks.{Every};
 ghost use Rattle.passing.specs.Passing.{Any, Neither, Passed};

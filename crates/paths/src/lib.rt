@@ -1,4 +1,6 @@
 // The paths of a tree file: which bytes they may have, and their order.
+#![tactic(auto)]
+
 ghost use Rattle.std.specs.Prelude.{◌≡◌, ◌&&◌};
 ghost use Rattle.text_rules.specs.Search.{has};
 ghost use Rattle.gate_rules.specs.Functions.{is_comment};

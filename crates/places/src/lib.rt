@@ -1,5 +1,7 @@
 // For each function of a scanned tree the line of the baseline that lists it, found in one pass over the lines, whatever their order. A place is 0
 // where no line lists the function, and else one more than where the line begins.
+#![tactic(auto)]
+
 ghost use Rattle.std.specs.Prelude.{◌≡◌, ℕ, ◌+◌, ◌≤◌, ◌<◌, length, get_or};
 ghost use Rattle.std.proofs.Math.Option.{some};
 ghost use Rattle.gate_rules.specs.Gate.{gate};

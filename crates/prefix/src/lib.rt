@@ -1,4 +1,6 @@
 // How many bytes two texts have in common from their starts on.
+#![tactic(auto)]
+
 ghost use Rattle.std.specs.Prelude.{◌≡◌, true, ◌+◌, ◌≤◌, min, length, drop};
 ghost use Rattle.prefix.specs.Common.{common};
 

@@ -1,5 +1,7 @@
 // What the programs share: reading the tree and the baseline, writing the baseline, printing. A read that fails is told from the end of the file,
 // since only a missing baseline is an empty one.
+#![tactic(auto)]
+
 ghost use Rattle.std.specs.Prelude.{◌+◌, ◌≤◌, [], ◌∷◌, ◌++◌, length};
 ghost use Rattle.text_rules.specs.Decimal.{decimal};
 ghost use Rattle.io.specs.Counts.{IsPrefixLen};

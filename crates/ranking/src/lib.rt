@@ -1,5 +1,7 @@
 // The functions over the limits, one after another in an order: a tournament of their numbers, so that each next one costs only the matches on one path.
 // With n functions the node n + k is the leaf of function k, and node i, from 1 to n - 1, holds the winner of 2 i and 2 i + 1. n stands for none.
+#![tactic(auto)]
+
 ghost use Rattle.std.specs.Prelude.{◌≡◌, ℕ, ◌+◌, ◌*◌, ◌≤◌, ◌<◌, length, get_or};
 ghost use Rattle.text_rules.specs.Bytes.{same};
 ghost use Rattle.gate_rules.specs.Gate.{gate};

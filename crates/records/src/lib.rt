@@ -1,4 +1,6 @@
 // Records of functions: eight numbers in 32 bytes, written, read, and the name that a record tells of.
+#![tactic(auto)]
+
 ghost use Rattle.std.specs.Prelude.{◌≡◌, [], ◌∷◌, ◌+◌, ◌≤◌, length};
 ghost use Rattle.text_rules.specs.Bytes.{put_at};
 ghost use Rattle.text_rules.specs.Sizes.{record_width};

@@ -1,4 +1,6 @@
 // Which regression lines a function has against what the baseline accepts of it, and how many bytes they take.
+#![tactic(auto)]
+
 ghost use Rattle.std.specs.Prelude.{◌≡◌, List, ℕ, ◌+◌, ◌≤◌, ltb};
 ghost use Rattle.functions.specs.Shown.{Lies, limits_of, shown};
 ghost use Rattle.regression_sizes.specs.Lines.{Measured, Small, accepts, branches_of, grown_of, lines_of, new_of, start_length};

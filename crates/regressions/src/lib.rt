@@ -1,5 +1,7 @@
 // The regression lines of check: each function of a scanned tree against what the baseline accepts of it. The lines are measured first, so that a caller
 // knows how many bytes they take before any of them is written.
+#![tactic(auto)]
+
 ghost use Rattle.std.specs.Prelude.{◌≡◌, true, false, ◌+◌, ◌≤◌, ◌<◌, length, get_or};
 ghost use Rattle.text_rules.specs.Bytes.{put_at};
 ghost use Rattle.gate_rules.specs.Baseline.{entries_of_lines, lookup};

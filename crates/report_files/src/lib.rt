@@ -1,4 +1,6 @@
 // The report's files: the ten with the greatest sums, and their rows.
+#![tactic(auto)]
+
 ghost use Rattle.std.specs.Prelude.{◌≡◌, true, List, [], ◌∷◌, ◌++◌, ℕ, ◌+◌, ◌≤◌, ◌<◌, length};
 ghost use Rattle.text_rules.specs.Bytes.{put_at};
 ghost use Rattle.text_rules.specs.Selection.{Placed, placed_from};

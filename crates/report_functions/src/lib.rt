@@ -1,4 +1,6 @@
 // The report's functions: what is counted over all of them, and the rows of those over the limits, the worst first.
+#![tactic(auto)]
+
 ghost use Rattle.std.specs.Prelude.{◌≡◌, ◌+◌, ◌≤◌, ◌<◌, length, get_or};
 ghost use Rattle.text_rules.specs.Bytes.{put_at};
 ghost use Rattle.gate_rules.specs.Gate.{gate};

@@ -1,5 +1,7 @@
 // What report writes: its first lines, a row for a function, a row for a file. Each writer puts its own bytes from `at` on and returns the place behind;
 // each length is told beforehand.
+#![tactic(auto)]
+
 ghost use Rattle.std.specs.Prelude.{◌≡◌, ◌+◌, ◌≤◌, max, length};
 ghost use Rattle.text_rules.specs.Bytes.{put_at};
 ghost use Rattle.text_rules.specs.Decimal.{decimal};

@@ -1,5 +1,7 @@
 // Searches in a blanked text: a byte, a bracket's partner, the ends of white space and of a word, the word `fn`, and the mark of test code. What is known
 // of braces is handed on, so that a text of many that are never closed is not read to its end for each.
+#![tactic(auto)]
+
 ghost use Rattle.std.specs.Prelude.{◌≡◌, true, ◌⊎◌, ◌≢◌, List, ◌∷◌, ℕ, ◌+◌, ◌≤◌, length, get_or, drop};
 ghost use Rattle.std.proofs.Math.Option.{none};
 ghost use Rattle.text_rules.specs.Bytes.{ascii};

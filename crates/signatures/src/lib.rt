@@ -2,6 +2,8 @@
 // the text is used, so that lists inside one another are not each sought to their end, nor the bodies behind them.
 // A search that goes far passes chunks in which it cannot end without reading them. What a search for a body found is kept for others that
 // come to the same place at the same depths.
+#![tactic(auto)]
+
 ghost use Rattle.std.specs.Prelude.{◌≡◌, ◌+◌, ◌≤◌, ◌<◌, length};
 ghost use Rattle.std.proofs.Math.Option.{some};
 ghost use Rattle.flat.specs.Body.{Counted, body_from};

@@ -1,5 +1,7 @@
 // At most 8,192 keys in byte order, each once. They stay where they are, in a text: two lent arrays hold where they start and end. A key more is put in at
 // its place, which is found by halves.
+#![tactic(auto)]
+
 ghost use Rattle.std.specs.Prelude.{◌≡◌, ◌&&◌, ◌+◌, ◌≤◌, min, ltb, length, take};
 ghost use Rattle.text_rules.specs.Bytes.{before, same};
 ghost use Rattle.text_rules.specs.Search.{part};

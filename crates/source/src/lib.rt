@@ -1,6 +1,8 @@
 // The functions of a blanked text, found and measured one after another.
 // The text is gone through to its end, bodies and test spans included: a test span may begin inside a body and reach past it, so no body is jumped
 // over. Bytes at which nothing can begin are passed in blocks of sixteen.
+#![tactic(auto)]
+
 ghost use Rattle.std.specs.Prelude.{◌≡◌, ◌⊎◌, true, ◌+◌, ◌≤◌, ◌<◌, length, get_or};
 ghost use Rattle.text_rules.specs.Classes.{brace_open};
 ghost use Rattle.search.specs.Place.{Learned};

@@ -1,8 +1,7 @@
 -- Blanking keeps UTF-8: every token begins at an ASCII byte, and ends behind one, before one, or at the end, so no character is cut.
 -- So white space at the ends of a part of the blanked text is white space by characters too.
-use Rattle.std.specs.Prelude.{ℕ, zero, suc, pred, ◌+◌, ◌≤◌, ◌<◌, ◌≡◌, refl, ◌⊎◌, Bool, true, false, not, ◌&&◌, List, [], ◌∷◌, eqb, leb, ltb, length, drop, get_or, take}
-use Rattle.std.proofs.Common.{ap, sym, ◌∙◌, subst, inl, inr, arith, lit≤, length-take, length-drop, get_or-drop, get_or-take, eqb-true, leb-true, ltb-true}
-use Rattle.std.proofs.lemmas.Bool.{not-false}
+use Rattle.std.specs.Prelude.{ℕ, zero, suc, pred, ◌+◌, ◌≤◌, ◌<◌, ◌≡◌, refl, ◌⊎◌, Bool, true, false, ◌&&◌, List, [], ◌∷◌, eqb, leb, ltb, length, drop, get_or, take}
+use Rattle.std.proofs.Common.{sym, ◌∙◌, subst, inl, inr, arith, lit≤, length-take, length-drop, get_or-drop, get_or-take, eqb-true, leb-true, ltb-true}
 use Rattle.text_rules.specs.Bytes.{◌or_else◌}
 use Rattle.text_rules.specs.BytesLaws.{and_left, and_right, whether}
 use Rattle.text_rules.specs.Classes.{apostrophe, backslash, hash, letter_b, letter_r, lf, quote, slash, star}

@@ -1,5 +1,5 @@
 -- A bracket's partner: the bracket of the same kind at which the depth, counted in that kind only, returns to 0.
-use Rattle.std.specs.Prelude.{ℕ, suc, pred, Bool, true, false, ◌&&◌, List, [], ◌∷◌, eqb}
+use Rattle.std.specs.Prelude.{ℕ, suc, pred, ◌&&◌, List, [], ◌∷◌, eqb}
 use Rattle.std.proofs.Math.Option.{Option, none, some}
 use Rattle.text_rules.specs.Bytes.{if◌then◌else◌}
 

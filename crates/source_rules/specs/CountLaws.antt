@@ -1,7 +1,7 @@
 -- Two marked sentences of the rules, for every text: `fn` with an opening parenthesis straight after it is no function; and where a
 -- parameter count would fall below 0. There the Rust panics or wraps; elsewhere it keeps the count at zero or above.
-use Rattle.std.specs.Prelude.{ℕ, ◌+◌, ◌-◌, ◌≤◌, ◌<◌, ◌≡◌, refl, ◌↔◌, Bool, true, false, List, [], ◌∷◌, ◌++◌}
-use Rattle.std.proofs.Common.{sym, inl, inr, arith}
+use Rattle.std.specs.Prelude.{ℕ, ◌+◌, ◌≤◌, ◌≡◌, refl, ◌↔◌, Bool, true, false, List, [], ◌∷◌, ◌++◌}
+use Rattle.std.proofs.Common.{arith}
 use Rattle.std.proofs.Math.Option.{none}
 use Rattle.text_rules.specs.Bytes.{ascii}
 use Rattle.text_rules.specs.BytesLaws.{true_false}

@@ -1,6 +1,8 @@
 // The stale keys: those of entries that no function of the tree has, each once and in byte order of the whole key. Where the keys of the baseline never
 // fall, as in a file that update wrote, they are taken as they stand there; elsewhere batch by batch. They are measured first, so that a caller knows
 // how many bytes their lines take before any of them is written.
+#![tactic(auto)]
+
 ghost use Rattle.std.specs.Prelude.{◌≡◌, true, ◌+◌, ◌≤◌, length};
 ghost use Rattle.text_rules.specs.Utf8.{is_utf8};
 ghost use Rattle.baseline.specs.Ordered.{Unfalling, keys_in};

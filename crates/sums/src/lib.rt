@@ -1,4 +1,6 @@
 // The sums of a tree's files: first as plain numbers, by file number, and then as entries of the table that the caller lends.
+#![tactic(auto)]
+
 ghost use Rattle.std.specs.Prelude.{◌≡◌, [], ◌<◌, ◌≤◌, length, set, get_or};
 ghost use Rattle.text_rules.specs.Bytes.{overwritten};
 ghost use Rattle.gate_rules.specs.Gate.{gate};

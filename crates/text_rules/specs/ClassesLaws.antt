@@ -1,6 +1,6 @@
 -- The class of a byte tells what it is: no byte is of two classes.
-use Rattle.std.specs.Prelude.{ℕ, ◌≤◌, ◌≡◌, refl, ◌⊎◌, Bool, true, false, ◌&&◌, ◌||◌, eqb, leb}
-use Rattle.std.proofs.Common.{sym, inl, inr, arith, eqb-true, leb-true}
+use Rattle.std.specs.Prelude.{ℕ, ◌≤◌, ◌≡◌, true, ◌&&◌, ◌||◌, eqb, leb}
+use Rattle.std.proofs.Common.{inl, inr, arith, eqb-true, leb-true}
 use Rattle.text_rules.specs.BytesLaws.{and_left, and_right, or_cases, whether}
 use Rattle.text_rules.specs.Classes.{class_of, is_digit, is_letter, is_space}
 

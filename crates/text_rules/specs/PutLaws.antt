@@ -1,8 +1,8 @@
 -- Bytes put one part after another are put at once, and putting keeps a buffer's length.
 use Rattle.std.specs.Prelude.{ℕ, ◌+◌, ◌≤◌, ◌≡◌, List, ◌++◌, length, take, drop}
-use Rattle.std.proofs.Common.{ap, ap₂, subst, sym, ◌∙◌, append_assoc, arith, length-append, length-drop, drop-drop, length-take-le}
+use Rattle.std.proofs.Common.{ap, ap₂, subst, ◌∙◌, append_assoc, arith, length-append, length-drop, drop-drop, length-take-le}
 use Rattle.std.proofs.Math.Seq.{drop-append-add, take-append_seam}
-use Rattle.text_rules.specs.Bytes.{kept, put_at}
+use Rattle.text_rules.specs.Bytes.{put_at}
 
 pub put-length : (at : ℕ) (xs s : List ℕ) → at + length xs ≤ length s → length (put_at at xs s) ≡ length s
 put-length at xs s h = simp (length-append, length-drop) (omega (arith, length-take-le at s (omega arith)))

@@ -1,6 +1,6 @@
 -- Where the searches end, and what a run or a part has.
-use Rattle.std.specs.Prelude.{ℕ, zero, suc, pred, ◌+◌, ◌-◌, ◌≤◌, ◌<◌, ◌≡◌, refl, Bool, true, false, ◌&&◌, ◌||◌, List, [], ◌∷◌, eqb, leb, length, take, drop, get_or}
-use Rattle.std.proofs.Common.{ap, ◌∙◌, inl, inr, arith, length-take, length-drop, eqb-true, leb-true}
+use Rattle.std.specs.Prelude.{ℕ, zero, suc, ◌+◌, ◌-◌, ◌≤◌, ◌<◌, ◌≡◌, refl, Bool, true, List, [], ◌∷◌, eqb, length, take, drop, get_or}
+use Rattle.std.proofs.Common.{ap, inl, inr, arith, length-take, length-drop, eqb-true}
 use Rattle.std.proofs.Math.Option.{Option, none, some}
 use Rattle.text_rules.specs.Bytes.{All}
 use Rattle.text_rules.specs.BytesLaws.{and_right, whether}

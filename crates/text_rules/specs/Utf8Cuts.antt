@@ -1,5 +1,5 @@
 -- Where a well-formed text may be cut: before an ASCII byte or the end, and behind an ASCII byte. What follows is well formed too.
-use Rattle.std.specs.Prelude.{ℕ, zero, suc, ◌+◌, ◌≤◌, ◌<◌, ◌≡◌, refl, ◌⊎◌, Bool, true, List, [], ◌∷◌, leb, length, drop, get_or}
+use Rattle.std.specs.Prelude.{ℕ, zero, suc, ◌+◌, ◌≤◌, ◌<◌, ◌≡◌, refl, ◌⊎◌, Bool, true, List, [], ◌∷◌, length, drop, get_or}
 use Rattle.std.proofs.Common.{ap, sym, ◌∙◌, subst, inl, inr, arith, lit≤, drop-cons, leb-true}
 use Rattle.std.proofs.Math.Bool.{false}
 use Rattle.text_rules.specs.Bytes.{All, if◌then◌else◌}

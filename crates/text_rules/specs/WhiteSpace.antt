@@ -1,6 +1,6 @@
 -- Unicode White_Space at both ends of a text.
 -- The characters with the property White_Space: U+9 to U+D, U+20, U+85, U+A0, U+1680, U+2000 to U+200A, U+2028, U+2029, U+202F, U+205F, U+3000.
-use Rattle.std.specs.Prelude.{ℕ, zero, suc, Bool, true, false, ◌&&◌, ◌||◌, List, [], ◌∷◌, eqb, get_or}
+use Rattle.std.specs.Prelude.{ℕ, zero, suc, Bool, ◌&&◌, ◌||◌, List, [], ◌∷◌, eqb, get_or}
 use Rattle.text_rules.specs.Bytes.{if◌then◌else◌}
 use Rattle.text_rules.specs.Classes.{space}
 use Rattle.text_rules.specs.Search.{opens, part}

@@ -1,7 +1,6 @@
 -- A character of white space does not leave the text, and a walk may jump over it.
-use Rattle.std.specs.Prelude.{ℕ, zero, suc, pred, ◌+◌, ◌-◌, ◌≤◌, ◌<◌, ◌≡◌, refl, Bool, true, false, ◌&&◌, ◌||◌, List, [], ◌∷◌, eqb, leb, length, take, drop, get_or}
-use Rattle.std.proofs.Common.{ap, ◌∙◌, inl, inr, arith, length-take, length-drop, eqb-true, leb-true}
-use Rattle.std.proofs.Math.Option.{Option, none, some}
+use Rattle.std.specs.Prelude.{ℕ, zero, suc, ◌+◌, ◌≤◌, ◌≡◌, refl, Bool, true, false, ◌&&◌, ◌||◌, List, [], ◌∷◌, eqb, leb, length, drop, get_or}
+use Rattle.std.proofs.Common.{ap, ◌∙◌, inl, inr, arith, eqb-true, leb-true}
 use Rattle.text_rules.specs.Bytes.{if◌then◌else◌}
 use Rattle.text_rules.specs.BytesLaws.{and_left, and_right, or_cases}
 use Rattle.text_rules.specs.Search.{opens}

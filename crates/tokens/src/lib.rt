@@ -1,6 +1,8 @@
 // The tokens that blanking passes over, comments and literals: where one ends that opens at a place of a text.
 // A `Cursor` is such a place, by value; each step takes one and hands back the next. The byte here says which rules may fit, so that one that begins
 // no token is looked at once.
+#![tactic(auto)]
+
 ghost use Rattle.std.specs.Prelude.{◌≡◌, ◌&&◌, false, ◌∷◌, ◌+◌, ◌≤◌, ◌<◌, min, eqb, length, get_or, drop};
 ghost use Rattle.text_rules.specs.Bytes.{◌or_else◌};
 ghost use Rattle.text_rules.specs.Classes.{apostrophe, lf, slash};

@@ -1,4 +1,6 @@
 // The tree file: the refusals 1 to 4, by its layout, its paths and its texts.
+#![tactic(auto)]
+
 ghost use Rattle.std.specs.Prelude.{◌≡◌, true, []};
 ghost use Rattle.gate_rules.specs.Tree.{is_laid_out, paths_rise, sources, texts_good, tree_refusal};
 

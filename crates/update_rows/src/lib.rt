@@ -1,5 +1,7 @@
 // The baseline that update writes: its header, and the rows of the functions over the limits. The rows are measured first, so that a caller knows how many
 // bytes they take before any of them is written.
+#![tactic(auto)]
+
 ghost use Rattle.std.specs.Prelude.{◌≡◌, List, ℕ, ◌+◌, ◌≤◌, length};
 ghost use Rattle.text_rules.specs.Bytes.{overwritten, put_at};
 ghost use Rattle.gate_rules.specs.Gate.{gate};

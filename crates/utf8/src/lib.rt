@@ -1,5 +1,7 @@
 // Well-formed UTF-8 by the Unicode Standard's table 3-7, and Unicode white space at the two ends of a text.
 // ASCII bytes are passed sixteen at once where they can be. Any other byte begins a character that is read whole, so nothing is awaited between two turns of a loop.
+#![tactic(auto)]
+
 ghost use Rattle.std.specs.Prelude.{◌≡◌, ◌&&◌, ◌||◌, [], ◌∷◌, ◌≤◌, ◌<◌, eqb, length, get_or, drop};
 ghost use Rattle.text_rules.specs.Bytes.{if◌then◌else◌};
 ghost use Rattle.text_rules.specs.Classes.{space};

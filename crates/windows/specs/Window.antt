@@ -1,7 +1,7 @@
 -- Numbers noted for the places of a part of a text, two for each. The first number tells where the part begins, the second how many places it has. The first
 -- numbers of the places stand behind them, and the second ones 2048 further. The last number counts uses, and tells nothing of a place.
 use Rattle.std.specs.Prelude.{ℕ, ◌+◌, ◌-◌, ◌≤◌, ◌<◌, ◌≡◌, ◌⊎◌, List, length, get_or, set}
-use Rattle.std.proofs.Common.{ap, subst, sym, ◌∙◌, inl, inr, arith, length-set, get_or-set_other, get_or-set_same}
+use Rattle.std.proofs.Common.{subst, sym, ◌∙◌, inl, inr, arith, length-set, get_or-set_other, get_or-set_same}
 
 -- the two numbers of each place tell of it what they must
 pub record Noted (P : (at first second : ℕ) → Type 0) (m : List ℕ) : Type 0 where

@@ -1,5 +1,7 @@
 // Numbers noted for the places of a part of a text, two for each. The array's first two tell at which place the part begins and how many places it has.
 // The first number of each place stands behind them, and its second 2048 further. The last number counts how often numbers of the part were of use.
+#![tactic(auto)]
+
 ghost use Rattle.std.specs.Prelude.{◌≡◌, ◌≤◌, length, get_or};
 ghost use Rattle.windows.specs.Window.{Found, Kept};
 

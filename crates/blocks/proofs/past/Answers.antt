@@ -1,7 +1,5 @@
 -- `blocks::past` meets its contract: at each turn the bytes passed and those before the first `x` of the rest make those of the whole.
-use Prim.Native.Nat.{◌-◌}
 use native.Mathlib.Omega.{arith}
-use borrow.Author.Tests.{not-false}
 use Rattle.blocks.specs.Blocks.{passed}
 use Rattle.blocks.proofs.past.Goals as goal
 
@@ -25,7 +23,7 @@ loop-at-smaller c = omega arith
 
 pub loop-at-preserved : goal.loop-at-preserved
 loop-at-preserved c = let a = c.args in
-    omega (arith, passed a.s.now a.x c.loop-at.at 16 (omega arith) (c.lacks.ensures (not-false _ c.if-not-lacks.false)))
+    omega (arith, passed a.s.now a.x c.loop-at.at 16 (omega arith) (c.lacks.ensures c.if-not-lacks.false))
 
 pub returns : goal.returns
 returns c = c.loop-at.invariant

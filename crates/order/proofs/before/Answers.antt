@@ -1,5 +1,4 @@
 -- `order::before` meets its contract: where the texts agree up to a place, the order of the rests is the order of the texts.
-use Prim.Native.Nat.{◌-◌}
 use mathlib.Core.Path.{refl, sym, ◌∙◌}
 use native.Mathlib.Omega.{arith}
 use Rattle.order.proofs.Steps.{before_longer, before_lower, before-other, before_same, before_shorter}

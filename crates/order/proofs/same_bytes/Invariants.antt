@@ -1,5 +1,5 @@
 -- `order::same_bytes` meets its contract: texts of one length whose ends agree from a place on are the same exactly if they agree before it.
-use Prim.Native.Nat.{◌≤◌, ◌-◌}
+use Prim.Native.Nat.{◌≤◌}
 use mathlib.Core.Path.{◌≡◌}
 use lib.ListN.{length, drop}
 use Rattle.order.proofs.same_bytes.Given as goal

@@ -1,11 +1,11 @@
 -- `prefix::alike` meets its contract: while the bytes before the i-th are the same, the flag holds.
-use Prim.Native.Nat.{ℕ, ◌+◌, ◌-◌}
+use Prim.Native.Nat.{ℕ, ◌+◌}
 use mathlib.Core.Path.{◌≡◌, ap, sym, ◌∙◌}
-use mathlib.Core.Logic.{⊎_elim}
 use native.Mathlib.Omega.{arith}
 use lib.ListN.{drop}
 use Rattle.prefix.specs.Common.{common, common-next}
 use Rattle.prefix.proofs.alike.Goals as goal
+use Rattle.prefix.proofs.alike.Goals.{else-s-at, then-s-at}
 
 pub loop-i-init : goal.loop-i-init
 loop-i-init c =
@@ -19,9 +19,7 @@ pub loop-i-preserved : goal.loop-i-preserved
 loop-i-preserved c =
     let a = c.args in (
       omega arith,
-      λ e. ⊎_elim (λ w. let z : ◌≡◌ {A = ℕ} 0 1 = cc in absurd (omega arith))
-          (λ w. common-next a.s.now a.t.now a.at c.loop-i.i _ (omega (arith, c.requires.0)) (omega (arith, c.requires.1)) w.0.left (c.loop-i.invariant.1 (sym w.1 ∙ e)))
-          c.if-s-at.branch,
+      λ e. elim c.if-s-at.branch [ then-s-at w ↦ let z : ◌≡◌ {A = ℕ} 0 1 = cc in absurd (omega arith) | else-s-at w ↦ common-next a.s.now a.t.now a.at c.loop-i.i _ (omega (arith, c.requires.0)) (omega (arith, c.requires.1)) w.if-s-at.false (c.loop-i.invariant.1 (sym w.all-is ∙ e)) ],
     )
 
 pub returns : goal.returns

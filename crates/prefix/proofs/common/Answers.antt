@@ -1,5 +1,4 @@
 -- `prefix::common` meets its contract: what the texts have in common is what they have up to a place, and what they have from there on.
-use Prim.Native.Nat.{◌-◌}
 use native.Mathlib.Omega.{arith}
 use Rattle.prefix.specs.Common.{common-end, common-more, common-stop}
 use Rattle.prefix.proofs.common.Goals as goal

@@ -1,6 +1,5 @@
 -- `prefix::past_alike` meets its contract: four bytes more that are the same are passed, or none.
 use native.Mathlib.Omega.{arith}
-use borrow.Author.Tests.{not-false}
 use Rattle.prefix.proofs.past_alike.Goals as goal
 
 pub alike-requires : goal.alike-requires
@@ -11,4 +10,4 @@ overflow_add-result c = record { fits = omega (arith, c.requires) }
 
 pub returns : goal.returns
 returns c =
-    (omega arith, omega (arith, c.past_eights-at.ensures.1, c.alike.ensures (not-false _ c.if-not-alike.false)))
+    (omega arith, omega (arith, c.past_eights-at.ensures.1, c.alike.ensures c.if-not-alike.false))

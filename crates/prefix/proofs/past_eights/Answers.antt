@@ -1,7 +1,5 @@
 -- `prefix::past_eights` meets its contract: what the texts have in common is what was passed, and what they have from there on.
-use Prim.Native.Nat.{◌-◌}
 use native.Mathlib.Omega.{arith}
-use borrow.Author.Tests.{not-false}
 use Rattle.prefix.proofs.past_eights.Goals as goal
 
 pub loop-at-init : goal.loop-at-init
@@ -14,7 +12,4 @@ alike-requires c =
 
 pub loop-at-preserved : goal.loop-at-preserved
 loop-at-preserved c =
-    (omega arith, omega (arith, c.loop-at.invariant.1, c.alike.ensures (not-false _ c.if-not-alike.false)))
-
-pub XX-overflow-add-at : goal.XX-overflow-add-at
-XX-overflow-add-at c = record { fits = omega (arith, c.requires) }
+    (omega arith, omega (arith, c.loop-at.invariant.1, c.alike.ensures c.if-not-alike.false))
