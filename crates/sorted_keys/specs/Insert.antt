@@ -90,6 +90,7 @@ module _ (k : List ℕ) where
         | inl e ↦ rw e (elim (Memᴰ.cases_cons m) [ inl q ↦ Memᴰ.head q | inr n ↦ Memᴰ.tail (insert-others js n) ])
         | inr e ↦ elim (whether (same j k)) [ inl d ↦ rw (e, d) m | inr d ↦ rw (e, d) (Memᴰ.tail m) ]
       ]
+  insert-others [] m = elim m [ ]
 
   -- the first keys afterwards come from the first keys before
   one_less : {A : Type 0} (m : ℕ) (j : A) (js : List A) → take m (j ∷ take m js) ≡ take m (j ∷ js)
@@ -114,6 +115,7 @@ module _ (k : List ℕ) where
         | inl q ↦ rw (ap (λ x. before x k) (sym q) ∙ before_itself k, ap (λ x. same x k) (sym q) ∙ same_refl k)
         | inr n ↦ rw (All-at (λ i. before j i ≡ true) js r.0 n) (ap (λ is. j ∷ is) (insert_in js r.1 n))
       ]
+  insert_in [] r m = elim m [ ]
 
   -- the place, by halves: a key that stands before it, and one that does not
   pub place-few : (ks : List (List ℕ)) → place_of k ks ≤ length ks
