@@ -23,7 +23,7 @@ pub fn count_after(x: u8, b: u8, n: usize) -> usize
 }
 
 // What a search for a body has counted: angle brackets that are open, and square ones that were opened and closed.
-#[derive(Drop)]
+#[derive(Clone, Copy)]
 pub struct Counts {
     pub angle: usize,
     pub opened: usize,
@@ -32,7 +32,7 @@ pub struct Counts {
 
 // What a search for a body meets up to a place: the brace, a `;` that ends it, with the place behind that, or nothing, with the counts that it has there.
 // Nothing rests on the place behind a `;` but time.
-#[derive(Drop)]
+#[derive(Clone, Copy)]
 pub enum Reached {
     Brace(usize),
     Ended(usize),
@@ -85,7 +85,7 @@ fn body_bytes(s: &[u8], from: usize, to: usize, n: Counts) -> Reached
 }
 
 // How many `<`, `>`, `[` and `]` a block has.
-#[derive(Drop)]
+#[derive(Clone, Copy)]
 struct Tally {
     ups: usize,
     downs: usize,
@@ -158,7 +158,7 @@ fn is_passed(s: &[u8], at: usize, n: Counts, t: Tally) -> bool
 }
 
 // A place that a search for a body has come to, and the counts that it has there.
-#[derive(Drop)]
+#[derive(Clone, Copy)]
 struct Halt {
     at: usize,
     counts: Counts,
