@@ -57,10 +57,10 @@ DigitsIn t = (i : ℕ) → i < length t → is_digit (get_or t i 0) ≡ true
 rest-digits : (b : ℕ) (t : List ℕ) → DigitsIn (b ∷ t) → DigitsIn t
 rest-digits b t h i k = h (suc i) (omega arith)
 
-all_digits : (t : List ℕ) → DigitsIn t → all_digits t ≡ true
+all_digits_lem : (t : List ℕ) → DigitsIn t → all_digits t ≡ true
 unfolding all_digits
-all_digits [] h = refl
-all_digits (b ∷ t) h = rw (h 0 (omega arith)) (all_digits t (rest-digits b t h))
+all_digits_lem [] h = refl
+all_digits_lem (b ∷ t) h = rw (h 0 (omega arith)) (all_digits_lem t (rest-digits b t h))
 
 value_most : (n : ℕ) (t : List ℕ) → DigitsIn t → value_from n t ≤ most n (length t)
 unfolding value_from most
@@ -79,7 +79,7 @@ nine-digits limit t h some_digit_lem few d =
     let small : value_from 0 t ≤ limit = omega (arith, value_most 0 t d, most_up (9 - length t) (length t) (omega arith)) in
     plus_none limit t (λ e. omega arith)
     ∙ sym (numeral-start limit t (λ e. omega arith))
-    ∙ rw (all_digits t d, le-leb (value_from 0 t) limit small)
+    ∙ rw (all_digits_lem t d, le-leb (value_from 0 t) limit small)
 
 -- ---- places
 

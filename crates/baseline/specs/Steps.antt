@@ -1,6 +1,6 @@
 -- The entries of a baseline, line by line, as a loop over its lines meets them.
 use Rattle.std.specs.Prelude.{ℕ, ◌+◌, ◌≤◌, ◌≡◌, refl, List, [], ◌∷◌, ◌++◌, map, ltb, length, drop}
-use Rattle.std.proofs.Common.{ap, ◌∙◌, inl, inr, append-nil, arith, drop_of_length-le, ltb-false, ltb-true}
+use Rattle.std.proofs.Common.{ap, ◌∙◌, inl, inr, arith, drop_of_length-le, ltb-false, ltb-true}
 use Rattle.std.proofs.Math.Option.{Option, none, some}
 use Rattle.text_rules.specs.Bytes.{present}
 use Rattle.text_rules.specs.BytesLaws.{whether}

@@ -1,0 +1,24 @@
+-- `baseline::number` meets its contract: what is left without one `+` is the text behind it, or the text itself.
+use mathlib.Core.Path.{ap, sym, ◌∙◌}
+use native.Mathlib.Omega.{arith}
+use Rattle.text_rules.specs.Decimal.{numeral}
+use Rattle.text_rules.specs.ScanLaws.{rest_part}
+use Rattle.text_rules.specs.SearchLaws.{in_text}
+use Rattle.baseline.proofs.Numbers.{plus-first, plus_none}
+use Rattle.baseline.proofs.number.Goals as goal
+
+pub slice_bounds-digits-count : goal.slice_bounds-digits-count
+slice_bounds-digits-count c = in_text c.args.s.now 0 (omega (arith, c.byte.ensures, c.if-byte-eq-PLUS.true))
+
+pub slice_bounds-digits-start : goal.slice_bounds-digits-start
+slice_bounds-digits-start c = in_text c.args.s.now 0 (omega (arith, c.byte.ensures, c.if-byte-eq-PLUS.true))
+
+pub returns-then-byte-eq-PLUS : goal.returns-then-byte-eq-PLUS
+returns-then-byte-eq-PLUS c =
+    let a = c.args in
+    c.digits.ensures ∙ ap (numeral a.limit) (rest_part a.s.now 1) ∙ sym (plus-first a.limit a.s.now (sym c.byte.ensures ∙ c.if-byte-eq-PLUS.true))
+
+pub returns : goal.returns
+returns c =
+    let a = c.args in
+    c.digits-2.ensures ∙ sym (plus_none a.limit a.s.now (λ e. c.if-byte-eq-PLUS.false (c.byte.ensures ∙ e)))
