@@ -2,44 +2,38 @@
 use Prim.Native.Nat.{◌+◌}
 use mathlib.Core.Path.{ap, ap₂, ◌∙◌}
 use native.Mathlib.Omega.{arith}
-use borrow.Author.Rules.{rules}
 use Rattle.gate_rules.specs.Tree.{entry_at, path_length, path_offset}
 use Rattle.gate_rules.specs.TreeLaws.{unrefused}
 use Rattle.functions.proofs.Read.{inside, number_at, shown-is, tells-here}
-use Rattle.functions.proofs.function_at.Statement.{statement}
-use Rattle.functions.proofs.function_at.Tie as tie
+use Rattle.functions.proofs.function_at.Goals as goal
 
-mul-get-record : tie.Need-overflow-mul-get-record
-mul-get-record c =
-    let few = c.before.before.requires.0.few in
+pub overflow_mul-k : goal.overflow_mul-k
+overflow_mul-k c =
+    let few = c.requires.0.few in
     record { fits = omega arith }
 
-get-record-requires : tie.Need-get-record-requires
-get-record-requires c κs =
-    let a = c.before.before.args in
-    let p = c.before.before.requires in
+pub get_record-r-requires : goal.get_record-r-requires
+get_record-r-requires c =
+    let a = c.args in
+    let p = c.requires in
     inside a.tree.now a.lent.now p.0 a.k p.1
 
-path-span-requires : tie.Need-path-span-requires
-path-span-requires c κs =
-    let g = c.before in
-    let s = g.before.before.before in
-    let a = s.args in
-    let p = s.requires in
-    let file = g.get-record.ensures.file-is ∙ number_at a.tree.now a.lent.now p.0 a.k p.1 0 _ (omega arith) (omega arith) in
+pub path_span-path-requires : goal.path_span-path-requires
+path_span-path-requires c =
+    let a = c.args in
+    let p = c.requires in
+    let file = c.get_record-r.ensures.file-is ∙ number_at a.tree.now a.lent.now p.0 a.k p.1 0 _ (omega arith) (omega arith) in
     ((unrefused a.tree.now p.0.unrefused).laid, omega (arith, file, (tells-here a.tree.now a.lent.now p.0 a.k p.1).file-there))
 
-returns : tie.Need-returns
+pub returns : goal.returns
 returns c =
-    let g = c.before.before.before.before in
-    let s = g.before.before.before in
-    let a = s.args in
-    let p = s.requires in
+    let a = c.args in
+    let p = c.requires in
     let tree = a.tree.now in
     let lent = a.lent.now in
-    let r = g.get-record.ensures in
+    let r = c.get_record-r.ensures in
     let at = number_at tree lent p.0 a.k p.1 in
-    let span = c.before.before.path-span.ensures in
+    let span = c.path_span-path.ensures in
     let file = r.file-is ∙ at 0 _ (omega arith) (omega arith) in
     let start = r.start_is ∙ at 1 _ (omega arith) (omega arith) in
     let len = r.len_is ∙ at 2 _ (omega arith) (omega arith) in (
@@ -62,6 +56,3 @@ returns c =
         name-inside = omega (arith, start, len, (tells-here tree lent p.0 a.k p.1).name-inside);
       },
     )
-
-pub function-at-spec : {M : Type 1} → statement M
-function-at-spec = tie.close (tie.spec mul-get-record get-record-requires (λ c. search rules) path-span-requires (λ c. search rules) (λ c. search rules) (λ c. search rules) returns)
