@@ -24,7 +24,7 @@ const OFTEN: u16 = 16;
 const BASE: usize = 4096;
 
 // The round brackets of some bytes: those that close one from before, and those that are not closed there.
-#[derive(Drop)]
+#[derive(Clone, Copy)]
 pub struct Round {
     pub closed: usize,
     pub opened: usize,
@@ -33,7 +33,7 @@ pub struct Round {
 // What some bytes do to a search for a body: `>` that close a `<` from before, `<` that are not closed there, `[`, `]`; the lowest and the highest
 // level of square brackets at which a `{` or `;` stands outside the angle brackets that are opened there, and how many of the first stand before the
 // last of those.
-#[derive(Drop)]
+#[derive(Clone, Copy)]
 pub struct Chunk {
     pub downs: usize,
     pub ups: usize,
@@ -320,7 +320,7 @@ fn read_chunk(t: &[u16; 36865], j: usize) -> Chunk
 }
 
 // What is told of the chunk at a place.
-#[derive(Drop)]
+#[derive(Clone, Copy)]
 pub enum Known {
     Sums(Chunk),
     Unknown,
@@ -337,7 +337,7 @@ pub fn chunk_at(s: &[u8], t: &[u16; 36865], at: usize) -> Known
 }
 
 // A search for the partner of a round bracket at a chunk: how many are open inside the bracket behind it; or the partner may be met in it.
-#[derive(Drop)]
+#[derive(Clone, Copy)]
 pub enum Past {
     Depth(usize),
     Met,
@@ -359,7 +359,7 @@ pub fn round_past(s: &[u8], t: &[u16; 36865], at: usize, depth: usize) -> Past
 }
 
 // A search for a body at a chunk: what it has counted behind it; or it may end in it.
-#[derive(Drop)]
+#[derive(Clone, Copy)]
 pub enum BodyPast {
     Further(Counts),
     Held,
