@@ -5,7 +5,7 @@ use Rattle.std.proofs.lemmas.Bool.{eqb-false}
 use Rattle.text_rules.specs.BytesLaws.{whether}
 use Rattle.flat.specs.Body.{Counted, body_from}
 use Rattle.flat.specs.declared.Counts.{Counts}
-use Rattle.memo.specs.Memo.{Elsewhere, Entry, Moves, Recalls, Tells, counts_at, no-entry, number_at, same-counts, set-elsewhere, set_there, set_entry}
+use Rattle.memo.specs.Memo.{Entry, Moves, Recalls, Tells, counts_at, no-entry, number_at, same-counts, set-elsewhere, set_there, set_entry}
 
 -- a search that tells nothing stays as it is
 pub stays : (s f : List ℕ) (to i : ℕ) → number_at f i ≡ 0 → Moves s to i f f

@@ -1,26 +1,17 @@
 -- `memo::forget` meets its contract: at each turn one more search tells nothing, and the place stays.
-use Prim.Native.Nat.{ℕ, ◌+◌, ◌-◌, ◌<◌, ◌≤◌}
+use Prim.Native.Nat.{◌+◌}
 use mathlib.Core.Path.{◌∙◌, ◌≡◌, subst, sym}
 use mathlib.Core.Logic.{inl, inr}
 use native.Mathlib.Omega.{arith}
-use borrow.Author.Rules.{rules}
 use borrow.Author.Tests.{eqb-false, eqb-true}
 use lib.Dec.{eqb}
-use lib.ListN.{get_or, length, length-set, set}
+use lib.ListN.{get_or, length-set, set}
 use lib.Seq.{get_or-set_other, get_or-set_same}
 use Rattle.text_rules.specs.BytesLaws.{whether}
-use Rattle.memo.specs.Memo.{number_at}
-use Rattle.memo.proofs.forget.Statement.{statement}
-use Rattle.memo.proofs.forget.Tie as tie
+use Rattle.memo.proofs.forget.Goals as goal
 
-abbrev invariant-loop : tie.invariant-loop
-invariant-loop f₀ at i₀ f i = (i ≤ 64) × (length f ≡ 259) × (get_or f 0 0 ≡ at) × ((j : ℕ) → j < i → number_at f j ≡ 0)
-
-abbrev decreases-loop : tie.decreases-loop
-decreases-loop f₀ at i₀ f i = 64 - i
-
-loop-holds : tie.Need-loop-init invariant-loop decreases-loop
-loop-holds c =
+pub loop-i-init : goal.loop-i-init
+loop-i-init c =
     let f = c.args.f.now in
     let at = c.args.at in
     let f₁ = set f 0 at in (
@@ -30,9 +21,24 @@ loop-holds c =
       λ j l. absurd (omega (arith, l)),
     )
 
-loop-again : tie.Need-loop-preserved invariant-loop decreases-loop
-loop-again c =
-    let l = c.before.loop in
+pub overflow_add-f : goal.overflow_add-f
+overflow_add-f c = omega arith
+
+pub offset_bounds-f-i : goal.offset_bounds-f-i
+offset_bounds-f-i c = omega arith
+
+pub bounds-f-i : goal.bounds-f-i
+bounds-f-i c = omega arith
+
+pub overflow_add-i : goal.overflow_add-i
+overflow_add-i c = omega arith
+
+pub loop-i-smaller : goal.loop-i-smaller
+loop-i-smaller c = omega arith
+
+pub loop-i-preserved : goal.loop-i-preserved
+loop-i-preserved c =
+    let l = c.loop-i in
     let f = l.f in
     let i = l.i in (
       omega arith,
@@ -45,24 +51,7 @@ loop-again c =
           ],
     )
 
-returns : tie.Need-returns invariant-loop decreases-loop
+pub returns : goal.returns
 returns c =
-    let l = c.before.loop in
-    record { room = l.invariant.1; place = l.invariant.2; nothing = λ j m. l.invariant.3 j (omega (arith, m, c.loop-test.false)) }
-
-pub forget-spec : {M : Type 1} → statement M
-forget-spec =
-    tie.close
-    (tie.spec
-    invariant-loop
-    decreases-loop
-    (λ c. search rules)
-    (λ c. search rules)
-    loop-holds
-    (λ c. omega arith)
-    (λ c. omega arith)
-    (λ c. omega arith)
-    (λ c. omega arith)
-    (λ c. omega arith)
-    loop-again
-    returns)
+    let l = c.loop-i in
+    record { room = l.invariant.1; place = l.invariant.2; nothing = λ j m. l.invariant.3 j (omega (arith, m, c.loop-i-test.false)) }
