@@ -12,7 +12,7 @@ ghost use Rattle.source_rules.specs.Finding.{is_fn};
 ghost use Rattle.search.specs.Place.{Absent, Knows, Learned, Meets, place_of};
 
 // A place in a text, if there is one.
-#[derive(Drop)]
+#[derive(Clone, Copy)]
 pub enum Place {
     At(usize),
     Nowhere,
@@ -48,7 +48,7 @@ fn behind_last(s: &[u8], x: u8) -> usize
 }
 
 // What a search for a partner meets up to a place: the partner, or the brackets that are open there.
-#[derive(Drop)]
+#[derive(Clone, Copy)]
 pub enum Met {
     Partner(usize),
     Depth(usize),
@@ -109,7 +109,7 @@ fn closings(s: &[u8], opening: u8, closing: u8, from: usize) -> usize
 
 // What is known of brackets of one kind that are never closed: no closing one stands from `last` on, and one with `depth` open inside it at the
 // place `at` has no partner.
-#[derive(Drop)]
+#[derive(Clone, Copy)]
 pub struct Unclosed {
     pub last: usize,
     pub at: usize,
@@ -162,7 +162,7 @@ fn looked_further(s: &[u8], opening: u8, closing: u8, from: usize, u: Unclosed) 
 }
 
 // A partner, and what is known after it was sought.
-#[derive(Drop)]
+#[derive(Clone, Copy)]
 pub struct Matched {
     pub place: Place,
     pub unclosed: Unclosed,
@@ -229,7 +229,7 @@ fn matching_delim(s: &[u8], opening: u8, closing: u8, from: usize, u: Unclosed) 
 
 // What was learnt of the braces of a text: no `{` stands from `last` on, what is known of those that are never closed, and behind which two places the
 // last of these stood that were sought, 0 where there were none.
-#[derive(Drop)]
+#[derive(Clone, Copy)]
 pub struct Learnt {
     pub last: usize,
     pub braces: Unclosed,
@@ -250,7 +250,7 @@ pub fn nothing_learnt(s: &[u8]) -> Learnt
 }
 
 // A place that was sought, and what was learnt from that.
-#[derive(Drop)]
+#[derive(Clone, Copy)]
 pub struct Looked {
     pub place: Place,
     pub learnt: Learnt,

@@ -25,7 +25,7 @@ const STAR: u8 = b'*';
 const BACKSLASH: u8 = b'\\';
 
 // A place in a text.
-#[derive(Drop)]
+#[derive(Clone, Copy)]
 pub struct Cursor {
     pub at: usize,
 }
