@@ -264,7 +264,7 @@ fn number_end(s: &[u8], from: usize, x: u8) -> usize
 }
 
 // A line that is read in one walk: the bytes of its path, where its name ends, and where it ends.
-#[derive(Drop)]
+#[derive(Clone, Copy)]
 pub struct Bounds {
     pub path: usize,
     pub name: usize,
@@ -272,7 +272,7 @@ pub struct Bounds {
 }
 
 // A line of path, name and two numbers of one to nine digits that an LF ends, or any other.
-#[derive(Drop)]
+#[derive(Clone, Copy)]
 pub enum Plain {
     Line(Bounds),
     Other,
@@ -349,7 +349,7 @@ pub fn is_key(key: &[u8], path: &[u8], name: &[u8]) -> bool
 }
 
 // The key of an entry, by its bounds in the baseline.
-#[derive(Drop)]
+#[derive(Clone, Copy)]
 pub enum Key {
     Bytes(usize, usize),
     Nothing,
@@ -381,13 +381,13 @@ pub fn key_at(baseline: &[u8], from: usize, to: usize) -> Key
 }
 
 // The measures that an entry accepts.
-#[derive(Drop)]
+#[derive(Clone, Copy)]
 pub struct Recorded {
     pub cyclomatic: u32,
     pub lines: u64,
 }
 
-#[derive(Drop)]
+#[derive(Clone, Copy)]
 pub enum Accepted {
     Measures(Recorded),
     Unlisted,
