@@ -1,6 +1,6 @@
 -- The numbers of searches: how they begin, how they are set one after another, and what they tell at the end.
-use Rattle.std.specs.Prelude.{ℕ, ◌+◌, ◌≤◌, ◌<◌, ◌≡◌, refl, ◌⊎◌, List, ltb, length, get_or, set, replicate}
-use Rattle.std.proofs.Common.{ap, subst, sym, ◌∙◌, inl, inr, arith, ltb-false, ltb-true, length-set, get_or-set_other, get_or-set_same}
+use Rattle.std.specs.Prelude.{ℕ, ◌+◌, ◌≤◌, ◌<◌, ◌≡◌, refl, List, ltb, length, get_or, set, replicate}
+use Rattle.std.proofs.Common.{subst, sym, inl, inr, arith, ltb-false, ltb-true}
 use Rattle.std.proofs.lemmas.List.{get_or-replicate, length-replicate}
 use Rattle.std.proofs.Math.ListN.{get_or-eq_default}
 use Rattle.text_rules.specs.BytesLaws.{whether}

@@ -1,6 +1,6 @@
 -- Bytes at which no search ends and no bracket is counted. The walk goes past them and nothing else changes.
-use Rattle.std.specs.Prelude.{ℕ, zero, suc, ◌+◌, ◌-◌, ◌≤◌, ◌<◌, ◌≡◌, refl, ◌≢◌, List, length, get_or}
-use Rattle.std.proofs.Common.{ap, subst, sym, ◌∙◌, inl, inr, arith, ne_eqb}
+use Rattle.std.specs.Prelude.{ℕ, zero, suc, ◌+◌, ◌-◌, ◌≤◌, ◌<◌, ◌≡◌, ◌≢◌, List, length, get_or}
+use Rattle.std.proofs.Common.{subst, sym, inl, inr, arith, ne_eqb}
 use Rattle.text_rules.specs.Classes.{angle_close, angle_open, brace_open, semicolon, square_close, square_open}
 use Rattle.text_rules.specs.Search.{count_after}
 use Rattle.source_rules.specs.Finding.{angle_after}

@@ -1,6 +1,6 @@
 -- Pending searches that end, those for which a condition holds: each gets one number, and no other number changes.
-use Rattle.std.specs.Prelude.{ℕ, suc, ◌+◌, ◌≤◌, ◌<◌, ◌≡◌, refl, ◌⊎◌, ◌≢◌, List, length, get_or, set}
-use Rattle.std.proofs.Common.{ap, subst, sym, ◌∙◌, inl, inr, arith}
+use Rattle.std.specs.Prelude.{ℕ, suc, ◌+◌, ◌≤◌, ◌<◌, ◌≡◌, refl, ◌⊎◌, ◌≢◌, List, get_or, set}
+use Rattle.std.proofs.Common.{subst, sym, ◌∙◌, inl, inr, arith}
 use Rattle.angles.specs.Angles.{same_or_not}
 use Rattle.bodies.specs.Chain.{Chain, Fits, Pending, popped, set-elsewhere, set_there}
 

@@ -1,11 +1,10 @@
 -- A walk over a text with the searches for a body that begin on the way, at given places. The angle depth of each is told by the brackets that are open
 -- and were opened behind its beginning, and its square depth by the level at which it began and the level of the walk. So at a `{` or `;` those end whose level is that
 -- of the walk, and that began behind all open angle brackets.
-use Rattle.std.specs.Prelude.{ℕ, suc, ◌+◌, ◌-◌, ◌≤◌, ◌<◌, min, max, ◌≡◌, refl, ◌⊎◌, ◌≢◌, true, false, List, eqb, ltb, length, drop, get_or, set}
+use Rattle.std.specs.Prelude.{ℕ, ◌+◌, ◌-◌, ◌≤◌, ◌<◌, min, max, ◌≡◌, refl, ◌⊎◌, ◌≢◌, true, List, eqb, length, drop, get_or, set}
 use Rattle.std.proofs.Common.{ap, subst, sym, ◌∙◌, inl, inr, arith}
 use Rattle.std.proofs.Math.Option.{Option, none, some}
-use borrow.Author.Tests.{eq-eqb, eqb-true, ltb-false, ltb-true}
-use Rattle.std.proofs.Math.ListN.{get_or-eq_default}
+use borrow.Author.Tests.{eq-eqb, eqb-true}
 use Rattle.text_rules.specs.BytesLaws.{and_left, and_right, whether}
 use Rattle.text_rules.specs.Classes.{brace_open, semicolon, square_close, square_open}
 use Rattle.text_rules.specs.Search.{count_after}

@@ -61,7 +61,7 @@ fn settle(
 
 // How far the walk over a text has come: how many searches have begun, the groups of angle brackets that are open, the square brackets that were opened
 // and closed since the walk began, how many searches are pending, and the lowest and the highest level at which one may be.
-#[derive(Drop)]
+#[derive(Clone, Copy)]
 struct Walk {
     at: usize,
     next: usize,
