@@ -17,7 +17,7 @@ use baseline::{Key, Plain};
 
 // The last key, the bytes of its path, and the functions that may have a key with that path, from one number up to another. A plain key is known to have
 // one tab and no LF.
-#[derive(Drop)]
+#[derive(Clone, Copy)]
 pub struct Last {
     pub key: Key,
     pub path: usize,
@@ -27,7 +27,7 @@ pub struct Last {
 }
 
 // The key of a line, the bytes of its path, how many bytes the line has in common with the last key, and where it ends.
-#[derive(Drop)]
+#[derive(Clone, Copy)]
 pub struct Found {
     pub key: Key,
     pub path: usize,
