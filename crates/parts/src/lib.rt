@@ -40,7 +40,7 @@ fn begin(from: usize, many: usize, m: &mut [u32; 4099])
 }
 
 // How far the pass has come: the brackets that wait, those that are closed, and how many from behind the part are open.
-#[derive(Drop)]
+#[derive(Clone, Copy)]
 struct Pass {
     at: usize,
     high: usize,
