@@ -27,7 +27,7 @@ fn blank_byte(b: u8) -> u8
 }
 
 // A place in a text up to which the output is written.
-#[derive(Drop)]
+#[derive(Clone, Copy)]
 struct Cursor {
     at: usize,
 }

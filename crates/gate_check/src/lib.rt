@@ -21,7 +21,7 @@ use functions::Limits;
 const MAX_BASELINE: usize = 33554432;
 
 // The number is 0 on success, and else says what was refused.
-#[derive(Drop)]
+#[derive(Clone, Copy)]
 pub struct CheckAnswer {
     pub number: u32,
     pub written: u32,

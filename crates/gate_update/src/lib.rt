@@ -14,7 +14,7 @@ use functions::Limits;
 const HEADER_LENGTH: usize = 396;
 
 // What update answers. The number is 0 on success, and else says what was refused.
-#[derive(Drop)]
+#[derive(Clone, Copy)]
 pub struct UpdateAnswer {
     pub number: u32,
     pub written: u32,

@@ -11,7 +11,7 @@ ghost use Rattle.source_rules.specs.Measures.{cyclomatic_of, is_pair};
 ghost use Rattle.classes.specs.Lent.{IsTable};
 ghost use Rattle.measures.specs.Walks.{Measured, PieceAt, Shaped, WalkedFrom};
 
-#[derive(Drop)]
+#[derive(Clone, Copy)]
 struct Shape {
     nesting: usize,
     lines: usize,
@@ -113,7 +113,7 @@ fn is_pair(b: u8, c: u8) -> bool
 }
 
 // A piece of a body: a word, a pair, or one byte, up to `end`.
-#[derive(Drop)]
+#[derive(Clone, Copy)]
 struct Piece {
     end: usize,
     decides: bool,
@@ -177,7 +177,7 @@ fn cyclomatic(body: &[u8]) -> usize
     n
 }
 
-#[derive(Drop)]
+#[derive(Clone, Copy)]
 pub struct Walked {
     pub cyclomatic: usize,
     pub nesting: usize,
@@ -206,7 +206,7 @@ fn more_one(n: usize, test: bool) -> usize
 }
 
 // The place of a body's closing brace, and the measures from the opening one through it.
-#[derive(Drop)]
+#[derive(Clone, Copy)]
 pub struct Body {
     pub end: usize,
     pub cyclomatic: usize,
@@ -215,7 +215,7 @@ pub struct Body {
 }
 
 // Whether the body that begins at a place is closed.
-#[derive(Drop)]
+#[derive(Clone, Copy)]
 pub enum BodyAt {
     Closed(Body),
     Open,

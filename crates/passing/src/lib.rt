@@ -7,7 +7,7 @@ ghost use Rattle.blocks.specs.Blocks.{Every};
 ghost use Rattle.passing.specs.Passing.{Any, Neither, Passed};
 
 // A place, and its line.
-#[derive(Drop)]
+#[derive(Clone, Copy)]
 pub struct Spot {
     pub at: usize,
     pub line: usize,

@@ -16,7 +16,7 @@ use search::{Learnt, Place};
 use signatures::Sought;
 
 // Where the search for functions stands in a text.
-#[derive(Drop)]
+#[derive(Clone, Copy)]
 pub struct Cursor {
     // the byte to look at next, and its line
     pub at: usize,
@@ -33,7 +33,7 @@ pub struct Cursor {
 }
 
 // A function: where its name stands in the text, and what is measured.
-#[derive(Drop)]
+#[derive(Clone, Copy)]
 pub struct Found {
     pub name_at: usize,
     pub name_len: usize,
@@ -45,14 +45,14 @@ pub struct Found {
 }
 
 // A function and the cursor behind it, or the end of the text.
-#[derive(Drop)]
+#[derive(Clone, Copy)]
 pub enum Step {
     Function(Found, Cursor),
     End,
 }
 
 // The brackets of a function after its name, those of its list and those of its body, and what is measured of the body.
-#[derive(Drop)]
+#[derive(Clone, Copy)]
 struct Brackets {
     opened: usize,
     closed: usize,
@@ -64,7 +64,7 @@ struct Brackets {
 }
 
 // A body that was sought: where it ends and what is measured of it, or that it is never closed. With it, what was learnt.
-#[derive(Drop)]
+#[derive(Clone, Copy)]
 enum Block {
     Closed(Body, Learnt),
     Open(Learnt),
@@ -72,21 +72,21 @@ enum Block {
 
 // What follows a name: all four brackets; or not all, and then neither after any other name that ends from there up to the given place. With
 // it, what was learnt.
-#[derive(Drop)]
+#[derive(Clone, Copy)]
 enum Signature {
     Whole(Brackets, Learnt),
     Broken(usize, Learnt),
 }
 
 // What a word `fn` begins: a function, and where its body ends; or none, with the places between which no name that ends is a function's.
-#[derive(Drop)]
+#[derive(Clone, Copy)]
 enum Measure {
     Counted(Found, usize, Learnt),
     Nothing(usize, usize, Learnt),
 }
 
 // The test span at a byte: its end, no further than the byte where there is none; the place up to which none begins; and what was learnt.
-#[derive(Drop)]
+#[derive(Clone, Copy)]
 struct Span {
     end: usize,
     spanless: usize,
@@ -94,7 +94,7 @@ struct Span {
 }
 
 // One byte further, with a function or without.
-#[derive(Drop)]
+#[derive(Clone, Copy)]
 enum Turn {
     Yield(Found, Cursor),
     Past(Cursor),
