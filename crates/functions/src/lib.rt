@@ -8,7 +8,7 @@ ghost use Rattle.gate_rules.specs.Scan.{functions_of};
 ghost use Rattle.functions.specs.Shown.{Lies, Stand, limits_of, no_fun, shown};
 
 // A function: the bounds of its path and of its name in the tree, and what is measured.
-#[derive(Drop)]
+#[derive(Clone, Copy)]
 pub struct Function {
     pub path_at: usize,
     pub path_end: usize,
@@ -22,7 +22,7 @@ pub struct Function {
 }
 
 // What a function may have at most.
-#[derive(Drop)]
+#[derive(Clone, Copy)]
 pub struct Limits {
     pub cyclomatic: u32,
     pub lines: u32,

@@ -14,7 +14,7 @@ ghost use Rattle.ranking.specs.Ranks.{Entered, Next, Played, PlayedBut, Ranked, 
 use functions::{Function, Limits};
 
 // The orders: update's rows go by path and then by name, the report's by cyclomatic falling and then by path. Ties go by scan order.
-#[derive(Drop)]
+#[derive(Clone, Copy)]
 pub enum Order {
     Keys,
     Worst,
