@@ -70,7 +70,7 @@ fn wide(n: u32) -> usize
 }
 
 // The end of a list and the brace that opens the body behind it.
-#[derive(Drop)]
+#[derive(Clone, Copy)]
 pub enum Sought {
     Both(usize, usize),
     Broken,
@@ -195,7 +195,7 @@ fn noted_body(
 }
 
 // What follows a `(`, and how far the search for the body went, at most: nothing rests on that but time.
-#[derive(Drop)]
+#[derive(Clone, Copy)]
 struct Went {
     sought: Sought,
     end: usize,
