@@ -78,7 +78,7 @@ fn put_row(tree: &[u8], f: Function, out: &mut [u8], at: usize) -> usize
 }
 
 // How many rows there are, and their bytes together.
-#[derive(Drop)]
+#[derive(Clone, Copy)]
 pub struct RowsSize {
     pub count: usize,
     pub bytes: usize,
