@@ -2,17 +2,8 @@
 use native.Mathlib.Omega.{arith}
 use Rattle.baseline.proofs.number_end.Goals as goal
 
-pub returns-then-end-from-gt9 : goal.returns-then-end-from-gt9
-returns-then-end-from-gt9 c = (omega arith, λ h. absurd (omega arith))
-
-pub returns-then-end-s : goal.returns-then-end-s
-returns-then-end-s c = (omega arith, λ h. absurd (omega arith))
-
-pub returns-then-s-end : goal.returns-then-s-end
-returns-then-s-end c = (omega arith, λ h. absurd (omega arith))
-
 pub returns : goal.returns
 returns c = (
   c.digits_end-end.ensures.0,
-  λ h. record { digits = c.digits_end-end.ensures.2; some_digit_lem = h; few = omega (arith, c.if-end-from-gt9.false); inside = omega (arith, c.if-end-s.false, c.digits_end-end.ensures.1); mark = c.if-s-end.false },
+  λ h. record { digits = c.digits_end-end.ensures.2; some_digit_lem = h; few = omega arith; inside = omega (arith, c.if-end-s.false, c.digits_end-end.ensures.1); mark = c.if-s-end.false },
 )
