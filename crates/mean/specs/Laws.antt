@@ -1,7 +1,7 @@
 -- Laws of rounding to the nearest whole number, of a double's fields, and of the mean.
 use Prim.Native.Nat.{ℕ, zero, suc, ◌+◌, ◌-◌, ◌*◌, ◌/◌, ◌%◌, ◌^◌, ◌≤◌, ◌<◌, compare, Ordering}
-use Rattle.std.specs.Prelude.{◌≡◌, refl, Bool, true, false, not, cond, T, leb, eqb, Float}
-use Rattle.std.proofs.Common.{sym, ap, ◌∙◌, subst, mul_assoc, mul_comm, mul_right_comm, mul_left_comm, mul-pos, mul-one, one-mul, mod-eq_of_lt, lt_of_le_of_lt, lt_of_lt_of_le, le_of_lt, mul-le-mul_right, mul-le-mul_left, mul-lt-mul_of_pos_right, sub-add_cancel, arith, leb→le, eqb→eq, pow_pos, pow_mono, pow-add, ne_eqb}
+use Rattle.std.specs.Prelude.{◌≡◌, refl, false, not, T, eqb, Float}
+use Rattle.std.proofs.Common.{sym, ap, ◌∙◌, subst, mul_assoc, mod-eq_of_lt, lt_of_lt_of_le, mul-lt-mul_of_pos_right, sub-add_cancel, arith, leb→le, eqb→eq, pow_pos, pow_mono, pow-add, ne_eqb}
 use Rattle.std.proofs.Math.Nat.{div-eq_of_lt}
 use Rattle.std.proofs.Math.Dec.{is_le, compare_is_eq, nleb→lt, eqb_refl}
 use Rattle.std.proofs.lemmas.Bool.{lt-leb}

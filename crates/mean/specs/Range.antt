@@ -1,20 +1,20 @@
 -- The mean is one rounding of total / count, and its bits are in the range that the code takes apart.
-use Rattle.std.specs.Prelude.{ℕ, zero, suc, ◌+◌, ◌-◌, ◌*◌, ◌/◌, ◌%◌, ◌^◌, ◌≤◌, ◌<◌, ◌≡◌, refl, Bool, true, not, cond, ltb, ℤ, pos, Float}
-use Rattle.std.proofs.Common.{zero-le, ◌∙◌, ⊎_elim, mul_assoc, mul_comm, mul_right_comm, mul-pos, mul-one, one-mul, le_of_lt, lt_of_le_of_lt, lt_of_lt_of_le, le_trans, mul-le-mul_right, mul-lt-mul_of_pos_right, div-lt_iff_lt-mul, eq-zero-or-pos, lit≤, pow_pos, pow-add, ne_eqb}
+use Rattle.std.specs.Prelude.{ℕ, ◌*◌, ◌/◌, ◌^◌, ◌≤◌, ◌<◌, ◌≡◌, true, not, ℤ, Float}
+use Rattle.std.proofs.Common.{◌∙◌, ⊎_elim, mul-pos, mul-one, mul-le-mul_right, mul-lt-mul_of_pos_right, div-lt_iff_lt-mul, eq-zero-or-pos, ne_eqb}
 use Rattle.std.proofs.Math.Path.{sym, ap, subst}
 use Rattle.std.proofs.Math.Bool.{false}
 use Rattle.std.proofs.Math.Nat.{zero-mul}
 use native.Mathlib.Omega.{arith}
 use Rattle.std.proofs.Math.Dec.{T, lit<}
 use Rattle.std.specs.Float.{nan, inf, fin, Format}
-use Rattle.std.specs.Float.Ieee.{binary64, up, down, size, div, of_int, round, unlike, is_nan, fits, to_bits, of_bits, le}
+use Rattle.std.specs.Float.Ieee.{binary64, up, down, size, div, round, is_nan, to_bits, of_bits, le}
 use Rattle.std.specs.Float.Ieee.Back.{round_whole}
 use Rattle.std.specs.Float.Ieee.Bits.{of_bits-to_bits}
 use Rattle.std.specs.Float.Ieee.Digits.{size-le}
 use Rattle.std.specs.Float.Ieee.Exact.{HasValue}
-use Rattle.std.specs.Float.Ieee.Fits.{up_pos, down_pos, kept-lt, round-fits}
+use Rattle.std.specs.Float.Ieee.Fits.{down_pos, kept-lt, round-fits}
 use Rattle.std.specs.Float.Ieee.Order.{round_mono}
-use Rattle.std.specs.Float.Ieee.Positive.{num, den, den_pos, positive, between, le→cross}
+use Rattle.std.specs.Float.Ieee.Positive.{num, den, positive, between, le→cross}
 use Rattle.std.specs.Float.Ieee.Scale.{round_same}
 use Rattle.gate_rules.specs.Mean.{mean}
 

@@ -4,14 +4,10 @@ use mathlib.Core.Path.{ap, ◌∙◌}
 use native.Mathlib.Nat.{one-mul, mod-eq_of_lt}
 use lib.Pow.{pow-lt}
 use borrow.Author.Rules.{rules}
-use Rattle.mean.proofs.pow2.Statement.{statement}
-use Rattle.mean.proofs.pow2.Tie as tie
+use Rattle.mean.proofs.pow2.Goals as goal
 
-shl-result : tie.Need-overflow-shl-result
-shl-result c = search rules
+pub overflow_shl-result : goal.overflow_shl-result
+overflow_shl-result c = search rules
 
-returns : tie.Need-returns
+pub returns : goal.returns
 returns c = ap (λ (z : ℕ). z % 2 ^ 64) (one-mul (2 ^ c.args.k)) ∙ mod-eq_of_lt (pow-lt c.requires)
-
-pub pow2-spec : {M : Type 1} → statement M
-pow2-spec = tie.close (tie.spec shl-result returns)
