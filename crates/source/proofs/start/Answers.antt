@@ -1,13 +1,11 @@
 -- `source::start` meets its contract: at the start nothing is open, and nothing was sought in vain.
 use mathlib.Core.Path.{refl}
 use native.Mathlib.Omega.{arith}
-use borrow.Author.Rules.{rules}
 use Rattle.source_rules.specs.TextScan.{functions}
 use Rattle.source.specs.Cursors.{Barren, Spanless, remaining, remaining_at}
-use Rattle.source.proofs.start.Statement.{statement}
-use Rattle.source.proofs.start.Tie as tie
+use Rattle.source.proofs.start.Goals as goal
 
-returns : tie.Need-returns
+pub returns : goal.returns
 unfolding remaining remaining_at functions Spanless Barren
 returns c = (
   record {
@@ -16,10 +14,7 @@ returns c = (
     line-most = omega arith;
     no_span = λ x h k. absurd (omega arith);
     no_function = λ from x h k. absurd (omega arith);
-    learned = c.nothing-learnt.ensures;
+    learned = c.nothing_learnt.ensures;
   },
   refl,
 )
-
-pub start_spec : {M : Type 1} → statement M
-start_spec = tie.close (tie.spec (λ c κs. search rules) returns)
