@@ -1,5 +1,5 @@
 -- The sums of the files as the code holds them, and the table's entries that tell of them.
-use Rattle.std.specs.Prelude.{ℕ, zero, suc, ◌+◌, ◌<◌, ◌≡◌, List, [], ◌∷◌, ◌++◌, length, get_or}
+use Rattle.std.specs.Prelude.{ℕ, zero, suc, ◌<◌, ◌≡◌, List, [], ◌∷◌, ◌++◌, length, get_or}
 use Rattle.gate_rules.specs.Records.{records}
 use Rattle.gate_rules.specs.Report as rules
 use Rattle.gate_rules.specs.SumLaws.{sum_over}

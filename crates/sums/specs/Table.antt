@@ -2,7 +2,7 @@
 use Prim.Native.Nat.{ℕ, zero, suc, ◌+◌, ◌≤◌, ◌<◌}
 use Rattle.std.specs.Prelude.{◌≡◌, ◌⊎◌}
 use Rattle.std.proofs.Math.Path.{refl, ap, sym}
-use Rattle.std.proofs.Common.{ap₂, ◌∙◌, arith, add-one, length-drop, ext_get_or}
+use Rattle.std.proofs.Common.{◌∙◌, arith, add-one, length-drop, ext_get_or}
 use Rattle.std.proofs.Math.Logic.{⊎_elim}
 use mathlib.Core.List.{List, [], ◌∷◌, ◌++◌, map, append_assoc}
 use Rattle.std.proofs.Math.Nat.{eq-or-lt_of_le}
@@ -11,10 +11,9 @@ use Rattle.std.proofs.lemmas.List.{length-map, set_at}
 use Rattle.std.proofs.Math.Seq.{drop-cons, get_or_at}
 use Rattle.text_rules.specs.Bytes.{overwritten}
 use Rattle.gate_rules.specs.Gate.{file_of, functions_of_files, gate}
-use Rattle.gate_rules.specs.Records.{records}
 use Rattle.gate_rules.specs.Report.{sums_from}
 use Rattle.gate_rules.specs.ReportCall.{sums_of}
-use Rattle.gate_rules.specs.SumLaws.{file-sum, no_sum, sum_over}
+use Rattle.gate_rules.specs.SumLaws.{file-sum, no_sum}
 use Rattle.gate_rules.specs.Tree.{file_count, sources, sources_from}
 use Rattle.sums.specs.Sums.{Sums, entry, first_entries, none, stored}
 use Rattle.sums.specs.declared.FileSum.{FileSum}

@@ -10,13 +10,13 @@ ghost use Rattle.functions.specs.Shown.{Stand};
 ghost use Rattle.sums.specs.Sums.{Sums, entry, first_entries, none};
 
 // The sum of each file, by its number; 0 behind the last file. A tree has at most 1,024.
-#[derive(Drop)]
+#[derive(Clone, Copy)]
 pub struct Totals {
     pub of: [u32; 1024],
 }
 
 // An entry of the lent table.
-#[derive(Drop)]
+#[derive(Clone, Copy)]
 pub struct FileSum {
     pub file: u32,
     pub sum: u32,
