@@ -29,7 +29,7 @@ use key_lines::{Found, Last};
 const HASH: u8 = b'#';
 
 // How many there are, and the bytes of their lines.
-#[derive(Drop)]
+#[derive(Clone, Copy)]
 pub struct Size {
     pub count: usize,
     pub bytes: usize,
@@ -204,7 +204,7 @@ fn next_line(lines: &[u8], last: Last, from: usize) -> Plain
 }
 
 // What is known of the last key behind some lines, where these end, how many keys they add, and the bytes of the lines of these.
-#[derive(Drop)]
+#[derive(Clone, Copy)]
 struct Run {
     last: Last,
     from: usize,
@@ -270,7 +270,7 @@ fn stays_whole(lines: &[u8], from: usize, whole: bool, plain: bool, added: usize
 
 // How many stale keys there are, the bytes of their lines, and whether no key of the baseline stands before that of an earlier line, as in one that update
 // wrote. One that is whole has nothing but plain lines with stale keys, and lines that start with #.
-#[derive(Drop)]
+#[derive(Clone, Copy)]
 pub struct Gone {
     pub ordered: bool,
     pub whole: bool,
