@@ -9,7 +9,7 @@ ghost use Rattle.gate_rules.specs.Report.{report_row};
 ghost use Rattle.report_rows.specs.Texts.{column, column_length, fun_of, head, head_length, measured, measured_length, row_length, weight_length, weight_row};
 
 // What a row tells of a function, beside its path and its name.
-#[derive(Drop)]
+#[derive(Clone, Copy)]
 pub struct Measures {
     pub line: u32,
     pub lines: u32,

@@ -1,0 +1,13 @@
+-- `report_rows::report_row_length` meets its contract: the line has at most 10 digits, so nothing wraps.
+use native.Mathlib.Omega.{arith}
+use Rattle.text_rules.specs.DecimalLaws.{decimal-length}
+use Rattle.report_rows.proofs.report_row_length.Goals as goal
+
+pub overflow_add-result : goal.overflow_add-result
+overflow_add-result c = let a = c.args in omega (arith, decimal-length a.m.line (omega arith))
+
+pub overflow_add-result-2 : goal.overflow_add-result-2
+overflow_add-result-2 c = let a = c.args in omega (arith, decimal-length a.m.line (omega arith))
+
+pub returns : goal.returns
+returns c = let a = c.args in omega (arith, decimal-length a.m.line (omega arith))
