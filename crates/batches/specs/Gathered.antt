@@ -104,6 +104,7 @@ module _ (live : List (List ℕ)) (last : Option (List ℕ)) where
         | inl q ↦ let t : fits k ≡ true = ap (λ j. fits j) (sym q) ∙ e in gathered-stays (one_more k ks) keys (rw (t, q) (insert_it k ks))
         | inr n ↦ gathered-each (one_more k ks) keys n e
       ]
+  gathered-each ks [] m e = elim m [ ]
 
 -- the keys of entries that may be taken are the stale keys behind the last one
 module _ (es : List Entry) (fs : List Fun) (last : Option (List ℕ)) where
