@@ -55,7 +55,7 @@ fn put_row(tree: &[u8], f: Function, out: &mut [u8], at: usize) -> usize
 }
 
 // What is counted over the functions: those over the limits, the bytes of their rows, and the cyclomatic numbers of all.
-#[derive(Drop)]
+#[derive(Clone, Copy)]
 pub struct Counts {
     pub over: u32,
     pub bytes: usize,
