@@ -1,6 +1,6 @@
 -- After blanking, each text of a tree stands blanked at its place in work, and all records are put as far as there is room.
-use Rattle.std.specs.Prelude.{ℕ, zero, suc, ◌+◌, ◌*◌, ◌≤◌, ◌<◌, ◌≡◌, List, [], ◌∷◌, map, length, take, drop}
-use Rattle.std.proofs.Common.{ap, ap₂, subst, sym, ◌∙◌, arith, length-take, length-drop}
+use Rattle.std.specs.Prelude.{ℕ, zero, suc, ◌+◌, ◌*◌, ◌≤◌, ◌<◌, ◌≡◌, List, map, length, take, drop}
+use Rattle.std.proofs.Common.{ap, subst, sym, ◌∙◌, arith, length-take, length-drop}
 use Rattle.text_rules.specs.Bytes.{All, joined, overwritten}
 use Rattle.source_rules.specs.Blank.{blanked}
 use Rattle.gate_rules.specs.BufferLaws.{blank_length, wide-files}

@@ -1,7 +1,7 @@
 -- The records of a text's functions, by the number of its file and the place of the text in the tree.
-use Rattle.std.specs.Prelude.{ℕ, zero, suc, ◌+◌, ◌-◌, ◌*◌, ◌≤◌, ◌<◌, ◌≡◌, refl, take, drop}
+use Rattle.std.specs.Prelude.{ℕ, suc, ◌+◌, ◌-◌, ◌*◌, ◌≤◌, ◌<◌, ◌≡◌, refl, take, drop}
 use Rattle.std.proofs.Math.Path.{ap}
-use Rattle.std.proofs.Common.{sym, ◌∙◌, add-one, arith, length-append, length-take, length-drop}
+use Rattle.std.proofs.Common.{◌∙◌, add-one, arith, length-append, length-take, length-drop}
 use mathlib.Core.List.{List, [], ◌∷◌, ◌++◌, map}
 use Rattle.std.proofs.Math.ListN.{length, length-map}
 use Rattle.text_rules.specs.BytesLaws.{map-append}
@@ -9,7 +9,6 @@ use Rattle.text_rules.specs.Sizes.{record_width}
 use Rattle.text_rules.specs.U32.{u32_bytes}
 use Rattle.source_rules.specs.Blank.{blanked}
 use Rattle.source_rules.specs.TextScan.{TextFun, functions}
-use Rattle.source_rules.specs.TextScanLaws.{Fine}
 use Rattle.gate_rules.specs.RecordForms.{put_record_length, put-records-append, put_record, put_records}
 use Rattle.gate_rules.specs.Records.{record_bytes, record_of, records_in, records_of_files}
 use Rattle.gate_rules.specs.RecordsLaws.{record_width_lem}

@@ -11,12 +11,7 @@ use Rattle.source_rules.specs.Blank.{blanked}
 use Rattle.source_rules.specs.BlankLaws.{blanked-length}
 use Rattle.gate_rules.specs.FileLaws.{FileAt, blank_end, blank_put, blank_step, count-inside, file-at}
 use Rattle.gate_rules.specs.Records.{blank_into}
-use Rattle.gate_rules.specs.Tree.{entry_at, file_count, sources, sources_from, text_in, text_length, text_offset}
-use Rattle.gate_scan.proofs.blank_texts.Reads as reads
-use Rattle.gate_scan.proofs.blank_texts.Lts as lts
-use Rattle.blanking.proofs.blank_part.Reads as blank-part-reads
-use Rattle.layout.proofs.file_count.Reads as file-count-reads
-use Rattle.layout.proofs.text_span.Reads as text-span-reads
+use Rattle.gate_rules.specs.Tree.{entry_at, sources, sources_from, text_in, text_length, text_offset}
 use Rattle.gate_scan.proofs.blank_texts.Goals as goal
 
 -- what one call of `blank_part` makes of work: the blanked text at its place, the length as it was, and the same whole to come

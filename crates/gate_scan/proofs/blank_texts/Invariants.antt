@@ -4,11 +4,6 @@ use mathlib.Core.Path.{◌≡◌}
 use lib.ListN.{length}
 use Rattle.gate_rules.specs.Records.{blank_into}
 use Rattle.gate_rules.specs.Tree.{sources, sources_from}
-use Rattle.gate_scan.proofs.blank_texts.Reads as reads
-use Rattle.gate_scan.proofs.blank_texts.Lts as lts
-use Rattle.blanking.proofs.blank_part.Reads as blank-part-reads
-use Rattle.layout.proofs.file_count.Reads as file-count-reads
-use Rattle.layout.proofs.text_span.Reads as text-span-reads
 use Rattle.gate_scan.proofs.blank_texts.Given as goal
 
 abbrev pub invariant-loop-k : goal.invariant-loop-k

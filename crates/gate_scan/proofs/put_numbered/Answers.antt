@@ -3,10 +3,6 @@ use Prim.Native.Nat.{◌*◌}
 use mathlib.Core.Path.{refl, ◌∙◌}
 use native.Mathlib.Omega.{arith}
 use Rattle.gate_rules.specs.RecordForms.{put_full, put-room}
-use Rattle.gate_scan.proofs.put_numbered.Reads as reads
-use Rattle.gate_scan.proofs.put_numbered.Lts as lts
-use Rattle.gate_scan.proofs.room.Reads as room-reads
-use Rattle.records.proofs.put_record.Reads as put-record-reads
 use Rattle.gate_scan.proofs.put_numbered.Goals as goal
 
 pub returns-then-number-room : goal.returns-then-number-room

@@ -1,5 +1,5 @@
 -- `gate_scan::scan_text` meets its contract: the records that are left, put into what the buffer has become, are all of them put into what it was.
-use Prim.Native.Nat.{◌+◌, ◌-◌}
+use Prim.Native.Nat.{◌+◌}
 use mathlib.Core.Path.{◌≡◌, refl, ap, subst, sym, ◌∙◌}
 use mathlib.Core.List.{[]}
 use native.Mathlib.Omega.{arith}
