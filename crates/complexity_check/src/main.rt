@@ -58,26 +58,26 @@ fn put_answer(
 }
 
 // Prints what check says.
-fn answer(tree: &[u8], baseline: &[u8]) {
+fn answer(rt: &(impl Print + Eprint), tree: &[u8], baseline: &[u8]) {
     let mut work = [0u8; 65536];
     let mut lent = [0u8; 65536];
     let mut output = [0u8; 65536];
     let n = put_answer(tree, baseline, &mut work, &mut lent, &mut output);
-    programs::print(&output[..n]);
+    programs::print(rt, &output[..n]);
 }
 
-fn main() {
+fn main(rt: HostRuntime) {
     let mut tree = [0u8; 65537];
-    let t = programs::read_tree(&mut tree);
+    let t = programs::read_tree(&rt, &mut tree);
     if t.failed {
         return;
     }
     let mut baseline = [0u8; 65537];
-    let b = programs::read_baseline(&mut baseline);
+    let b = programs::read_baseline(&rt, &mut baseline);
     if b.failed {
         return;
     }
     let tree_end = t.count;
     let baseline_end = b.count;
-    answer(&tree[..tree_end], &baseline[..baseline_end]);
+    answer(&rt, &tree[..tree_end], &baseline[..baseline_end]);
 }

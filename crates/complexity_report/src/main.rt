@@ -26,20 +26,20 @@ fn put_answer(tree: &[u8], work: &mut [u8], lent: &mut [u8], output: &mut [u8]) 
 }
 
 // Prints the report.
-fn answer(tree: &[u8]) {
+fn answer(rt: &(impl Print + Eprint), tree: &[u8]) {
     let mut work = [0u8; 65536];
     let mut lent = [0u8; 65536];
     let mut output = [0u8; 65536];
     let n = put_answer(tree, &mut work, &mut lent, &mut output);
-    programs::print(&output[..n]);
+    programs::print(rt, &output[..n]);
 }
 
-fn main() {
+fn main(rt: HostRuntime) {
     let mut tree = [0u8; 65537];
-    let t = programs::read_tree(&mut tree);
+    let t = programs::read_tree(&rt, &mut tree);
     if t.failed {
         return;
     }
     let end = t.count;
-    answer(&tree[..end]);
+    answer(&rt, &tree[..end]);
 }

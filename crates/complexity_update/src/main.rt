@@ -9,6 +9,8 @@ ghost use Rattle.gate_rules.specs.Programs.{lent as zeros};
 ghost use Rattle.programs.specs.Lines.{Starts};
 ghost use Rattle.complexity_update.specs.Answered.{closing, refusal_line};
 
+use std::rt::Files;
+
 // The bytes that a tree may have.
 const MOST: usize = 65536;
 
@@ -70,7 +72,7 @@ fn put_answer(
 }
 
 // Writes the file, if there is one, and prints once it stands.
-fn answer(tree: &[u8]) {
+fn answer(rt: &(impl Files + Print + Eprint), tree: &[u8]) {
     let mut work = [0u8; 65536];
     let mut lent = [0u8; 65536];
     let mut output = [0u8; 65536];
@@ -79,19 +81,19 @@ fn answer(tree: &[u8]) {
     let file = r.file;
     let end = r.line;
     if r.number == 0 {
-        if !programs::write_baseline(&output[..file]) {
+        if !programs::write_baseline(rt, &output[..file]) {
             return;
         }
     }
-    programs::print(&line[..end]);
+    programs::print(rt, &line[..end]);
 }
 
-fn main() {
+fn main(rt: HostRuntime) {
     let mut tree = [0u8; 65537];
-    let t = programs::read_tree(&mut tree);
+    let t = programs::read_tree(&rt, &mut tree);
     if t.failed {
         return;
     }
     let end = t.count;
-    answer(&tree[..end]);
+    answer(&rt, &tree[..end]);
 }
