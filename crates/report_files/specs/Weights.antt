@@ -3,7 +3,6 @@ use Rattle.std.specs.Prelude.{ℕ, zero, suc, ◌+◌, ◌*◌, ◌≤◌, ◌<�
 use Rattle.std.proofs.Common.{ap, ap₂, subst, sym, ◌∙◌, append-nil, arith, length-drop, length-take, le-ltb, lt-ltb}
 use Rattle.std.proofs.lemmas.List.{length-map}
 use Rattle.text_rules.specs.Bytes.{All, if◌then◌else◌, kept, total}
-use Rattle.source_rules.specs.Blank.{blanked}
 use Rattle.source_rules.specs.TextScan.{TextFun, functions}
 use Rattle.source_rules.specs.TextScanLaws.{Fine, functions-fine}
 use Rattle.gate_rules.specs.Functions.{Fun}

@@ -99,7 +99,7 @@ fn next_file(tree: &[u8], of: &[u32], n: usize, last: usize) -> usize
 }
 
 // The numbers of the heaviest files, `count` of them.
-#[derive(Drop)]
+#[derive(Clone, Copy)]
 pub struct Heaviest {
     pub count: usize,
     pub files: [usize; 10],
