@@ -24,7 +24,7 @@ fn main() {
     let module = format!("#[allow(dead_code)]\n#[path = {:?}]\nmod oracle;\n", made.display().to_string());
     std::fs::write(out.join("module.rs"), module).expect("the module is written");
 
-    assert!(library.is_file(), "{} is missing: run `rt staticlib complexity` first", library.display());
+    assert!(library.is_file(), "{} is missing: run `tools/staticlib` first", library.display());
     std::println!("cargo:rustc-link-search=native={}", library.parent().expect("a folder").display());
     std::println!("cargo:rustc-link-lib=static=complexity");
 }

@@ -1,5 +1,5 @@
-// The calls for C hosts, on byte slices. Each returns the call's number: 0 on success, or what was refused. On success the counts are put into lent
-// bytes, four for each, the lowest first; a refusal leaves them as they were.
+// The calls for hosts, on byte slices, which the crate complexity_c exports to C. Each returns the call's number: 0 on success, or what was refused. On
+// success the counts are put into lent bytes, four for each, the lowest first; a refusal leaves them as they were.
 #![tactic(auto)]
 
 ghost use Rattle.std.specs.Prelude.{◌≡◌, [], ◌∷◌, ◌≤◌, length};
@@ -86,8 +86,7 @@ fn report_counts(r: Answer, counts: &mut [u8]) -> u32
 }
 
 // A text, blanked.
-#[unsafe(no_mangle)]
-pub extern "C" fn complexity_blank(text: &[u8], output: &mut [u8]) -> u32
+pub fn complexity_blank(text: &[u8], output: &mut [u8]) -> u32
     ensures { EndsBlank result (exported_blank text.now output.old) output.new }
 {
     let r = blanking::blank(text, output);
@@ -95,13 +94,7 @@ pub extern "C" fn complexity_blank(text: &[u8], output: &mut [u8]) -> u32
 }
 
 // The records of a tree. Counts: functions.
-#[unsafe(no_mangle)]
-pub extern "C" fn complexity_scan(
-    tree: &[u8],
-    work: &mut [u8],
-    records: &mut [u8],
-    counts: &mut [u8],
-) -> u32
+pub fn complexity_scan(tree: &[u8], work: &mut [u8], records: &mut [u8], counts: &mut [u8]) -> u32
     ensures { Ends result (exported_scan gate tree.now work.old records.old counts.old)
         work.new records.new [] counts.new }
 {
@@ -113,8 +106,7 @@ pub extern "C" fn complexity_scan(
 }
 
 // What got worse against a baseline. Counts: bytes written, functions, regressions, stale entries.
-#[unsafe(no_mangle)]
-pub extern "C" fn complexity_check(
+pub fn complexity_check(
     tree: &[u8],
     baseline: &[u8],
     work: &mut [u8],
@@ -133,8 +125,7 @@ pub extern "C" fn complexity_check(
 }
 
 // The baseline of a tree. Counts: bytes written, functions, functions recorded.
-#[unsafe(no_mangle)]
-pub extern "C" fn complexity_update(
+pub fn complexity_update(
     tree: &[u8],
     work: &mut [u8],
     records: &mut [u8],
@@ -152,8 +143,7 @@ pub extern "C" fn complexity_update(
 }
 
 // The report of a tree, with a table of sums of its own. Counts: bytes written, functions.
-#[unsafe(no_mangle)]
-pub extern "C" fn complexity_report(
+pub fn complexity_report(
     tree: &[u8],
     work: &mut [u8],
     records: &mut [u8],
