@@ -98,7 +98,7 @@ pub fn any_has(tree: &[u8], lent: &[u8], n: usize, from: usize, to: usize, bytes
 }
 
 // Functions by their numbers: from one up to another.
-#[derive(Drop)]
+#[derive(Clone, Copy)]
 pub struct Numbers {
     pub from: usize,
     pub to: usize,
