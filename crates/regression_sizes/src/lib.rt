@@ -9,7 +9,7 @@ use baseline::{Accepted, Recorded};
 use functions::{Function, Limits};
 
 // How many lines there are, and the bytes of all of them as they are listed.
-#[derive(Drop)]
+#[derive(Clone, Copy)]
 pub struct Size {
     pub count: usize,
     pub bytes: usize,
