@@ -28,7 +28,7 @@ use sums::{FileSum, Totals};
 const FILES_LINE: usize = 47;
 
 // What is answered, and how many entries of the lent table are to be filled, with their sums.
-#[derive(Clone, Copy)]
+#[derive(Drop)]
 pub struct Core {
     pub answer: Answer,
     pub files: u32,
