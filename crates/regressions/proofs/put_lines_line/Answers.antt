@@ -1,0 +1,20 @@
+-- `regressions::put_lines_line` meets its contract: each part is put behind the one before.
+use mathlib.Core.Path.{ap, ◌∙◌}
+use lib.ListN.{length}
+use native.Mathlib.Omega.{arith}
+use Rattle.text_rules.specs.Bytes.{ascii, put_at}
+use Rattle.text_rules.specs.WriterLaws.{Puts, puts-all, puts_none, puts-sized, puts_then}
+use Rattle.functions.specs.Shown.{shown}
+use Rattle.regression_sizes.specs.Lines.{lines-length, lines-parts, one_pair, pair-length, started-length}
+use Rattle.regressions.proofs.put_lines_line.Goals as goal
+
+pub returns : goal.returns
+returns c =
+    let a = c.args in
+    let f = shown a.tree.now a.f in
+    let was = a.m.lines in
+    let parts : Puts a.at a.out.now (one_pair f (ascii " is ") f.lines (ascii " lines, was ") was) _ _ =
+    puts-sized (started-length f) c.put_start-number.ensures (puts-sized (pair-length (ascii " is ") f.lines (ascii " lines, was ") was) c.put_pair-end.ensures
+    (puts_then c.put_text.ensures puts_none)) in
+    let all = puts-all parts (ap length (lines-parts f a.m) ∙ lines-length f a.m) (omega arith) in
+    (all.0, all.1 ∙ ap (λ t. put_at a.at t a.out.now) (lines-parts f a.m))
