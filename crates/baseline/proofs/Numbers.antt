@@ -13,8 +13,8 @@ use Rattle.text_rules.specs.Bytes.{if◌then◌else◌}
 use Rattle.text_rules.specs.BytesLaws.{and_left, whether}
 use Rattle.text_rules.specs.Classes.{is_digit}
 use Rattle.text_rules.specs.Decimal.{all_digits, is_numeral, numeral, parse_number, value_from, without_plus}
-use Rattle.text_rules.specs.ScanLaws.{split}
-use Rattle.gate_rules.specs.LoopForms.{value_grows}
+use Rattle.text_rules.proofs.ScanLaws.{split}
+use Rattle.gate_rules.proofs.LoopForms.{value_grows}
 
 -- the number that the digits of s make, behind those that made n
 abbrev pub numeral_from : (limit n : ℕ) → List ℕ → Option ℕ

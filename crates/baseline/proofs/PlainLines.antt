@@ -13,8 +13,8 @@ use borrow.Author.Tests.{eqb-false, eqb-true, le-leb, leb-true, lt-ltb, ltb-fals
 use Rattle.text_rules.specs.BytesLaws.{and_left, and_right, whether}
 use Rattle.text_rules.specs.Classes.{is_digit}
 use Rattle.text_rules.specs.Decimal.{all_digits, parse_number, value_from}
-use Rattle.text_rules.specs.LineForms.{trim-other}
-use Rattle.text_rules.specs.ScanLaws.{bytes_before-stop, run_end}
+use Rattle.text_rules.proofs.LineForms.{trim-other}
+use Rattle.text_rules.proofs.ScanLaws.{bytes_before-stop, run_end}
 use Rattle.text_rules.specs.Search.{bytes_before, part}
 use Rattle.baseline.specs.Plain.{Digits, Front, NumberField, PlainLine, Text, to-mark}
 use Rattle.baseline.specs.Reads.{Inside}
@@ -74,8 +74,8 @@ value_most n (b ∷ t) h =
     )
 
 pub nine-digits : (limit : ℕ) (t : List ℕ) → 999999999 ≤ limit → 0 < length t → length t ≤ 9 → DigitsIn t → parse_number limit t ≡ some (value_from 0 t)
-nine-digits limit t h some_digit_lem few d =
-    let first = digit_range_lem (get_or t 0 0) (d 0 some_digit_lem) in
+nine-digits limit t h some_digit few d =
+    let first = digit_range_lem (get_or t 0 0) (d 0 some_digit) in
     let small : value_from 0 t ≤ limit = omega (arith, value_most 0 t d, most_up (9 - length t) (length t) (omega arith)) in
     plus_none limit t (λ e. omega arith)
     ∙ sym (numeral-start limit t (λ e. omega arith))
@@ -145,13 +145,13 @@ module _ (s : List ℕ) (from a b c d : ℕ) (f : Front s from a b) (mb : get_or
 
   line-ends : d ≡ from + bytes_before 10 (drop from s)
   line-ends =
-      let there : from + (d - from) ≡ d = omega (arith, f.begins, f.goes_on, m.some_digit_lem, n.some_digit_lem) in
+      let there : from + (d - from) ≡ d = omega (arith, f.begins, f.goes_on, m.some_digit, n.some_digit) in
       let stop = ap (λ (j : ℕ). bytes_before 10 (drop j s)) there ∙ bytes_before-stop s d n.inside 10 n.mark in
       omega (arith, to-mark 10 s (d - from) from (omega (arith, n.inside)) stop (λ i h k. no-lf i h (omega arith)))
 
   pub plain-line : PlainLine s from (a - from) b d
   plain-line =
-      let order : (from ≤ a) × (a < b) × (b + 1 < c) × (c + 1 < d) × (d < length s) = (f.begins, f.goes_on, m.some_digit_lem, n.some_digit_lem, n.inside) in
+      let order : (from ≤ a) × (a < b) × (b + 1 < c) × (c + 1 < d) × (d < length s) = (f.begins, f.goes_on, m.some_digit, n.some_digit, n.inside) in
       let line = part from d s in
       let h : from ≤ d = omega (arith, order) in
       let k : d ≤ length s = omega (arith, order) in
@@ -194,4 +194,4 @@ module _ (s : List ℕ) (from a b c d : ℕ) (f : Front s from a b) (mb : get_or
       zero_more i = omega arith
 
       last_digit : get_or s (d - 1) 0 ≢ 13
-      last_digit e = omega (arith, digit_range_lem (get_or s (d - 1) 0) (n.digits (d - 1) (omega (arith, n.some_digit_lem)) (omega (arith, n.some_digit_lem))))
+      last_digit e = omega (arith, digit_range_lem (get_or s (d - 1) 0) (n.digits (d - 1) (omega (arith, n.some_digit)) (omega (arith, n.some_digit))))

@@ -6,7 +6,7 @@ use Rattle.std.proofs.Math.Option.{Option, none, some}
 use borrow.Author.Tests.{eq-eqb, ltb-false, ltb-true, ne_eqb}
 use Rattle.text_rules.specs.BytesLaws.{whether}
 use Rattle.text_rules.specs.Decimal.{parse_number}
-use Rattle.text_rules.specs.LineForms.{part-joined, piece-last, piece-next}
+use Rattle.text_rules.proofs.LineForms.{part-joined, piece-last, piece-next}
 use Rattle.text_rules.specs.Lines.{fields, split}
 use Rattle.text_rules.specs.Search.{bytes_before, part}
 use Rattle.gate_rules.specs.Baseline.{entry_of, entry_of_fields, entry_with}

@@ -4,7 +4,7 @@ use Rattle.std.proofs.Common.{ap, subst, ◌∙◌, inl, inr, arith, ltb-false, 
 use Rattle.std.proofs.Math.Option.{some}
 use Rattle.text_rules.specs.BytesLaws.{whether}
 use Rattle.text_rules.specs.Classes.{is_digit, tab}
-use Rattle.text_rules.specs.ScanLaws.{bytes_before-more}
+use Rattle.text_rules.proofs.ScanLaws.{bytes_before-more}
 use Rattle.text_rules.specs.Search.{bytes_before, part}
 use Rattle.gate_rules.specs.Baseline.{entry_of}
 use Rattle.baseline.specs.Reads.{KeyFrom, key_of_entry, line_at}
@@ -24,7 +24,7 @@ Digits s from to = (i : ℕ) → from ≤ i → i < to → is_digit (get_or s i 
 -- one to nine digits, up to a place where the byte x stands
 pub record NumberField (s : List ℕ) (from to x : ℕ) : Type 0 where
   pub digits : Digits s from to
-  pub some_digit_lem : from < to
+  pub some_digit : from < to
   pub few : to ≤ from + 9
   pub inside : to < length s
   pub mark : get_or s to 0 ≡ x

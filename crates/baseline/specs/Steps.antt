@@ -4,7 +4,7 @@ use Rattle.std.proofs.Common.{ap, ◌∙◌, inl, inr, arith, drop_of_length-le,
 use Rattle.std.proofs.Math.Option.{Option, none, some}
 use Rattle.text_rules.specs.Bytes.{present}
 use Rattle.text_rules.specs.BytesLaws.{whether}
-use Rattle.text_rules.specs.LineForms.{line-last, line-next}
+use Rattle.text_rules.proofs.LineForms.{line-last, line-next}
 use Rattle.text_rules.specs.Lines.{ended, fields, lines_in, split, without_cr}
 use Rattle.text_rules.specs.Search.{bytes_before, part}
 use Rattle.gate_rules.specs.Baseline.{Entry, entries_of_lines, entry_of, entry_of_fields}

@@ -13,8 +13,8 @@ use Rattle.text_rules.specs.Selection.{Rising}
 use Rattle.gate_rules.specs.Baseline.{Entry}
 use Rattle.gate_rules.specs.Check.{listed, spaced, stale}
 use Rattle.gate_rules.specs.Functions.{Fun}
-use Rattle.gate_rules.specs.LoopForms.{listed-append}
-use Rattle.gate_rules.specs.StaleLaws.{stale-rising}
+use Rattle.gate_rules.proofs.LoopForms.{listed-append}
+use Rattle.gate_rules.proofs.StaleLaws.{stale-rising}
 use Rattle.baseline.specs.declared.Key.{Key}
 use Rattle.baseline.specs.declared.Key.TheVariants.{Bytes, Nothing}
 use Rattle.baseline.specs.Reads.{KeyInside, key_in}

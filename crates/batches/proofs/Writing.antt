@@ -5,8 +5,8 @@ use mathlib.Core.List.{List}
 use native.Mathlib.Omega.{arith}
 use lib.ListN.{length, take, get_or}
 use Rattle.text_rules.specs.Bytes.{kept, put_at}
-use Rattle.text_rules.specs.PutLaws.{put-length}
-use Rattle.text_rules.specs.WriterLaws.{put-none, put_then}
+use Rattle.text_rules.proofs.PutLaws.{put-length}
+use Rattle.text_rules.proofs.WriterLaws.{put-none, put_then}
 use Rattle.gate_rules.specs.Baseline.{Entry}
 use Rattle.gate_rules.specs.Check.{listed, stale}
 use Rattle.gate_rules.specs.Functions.{Fun}

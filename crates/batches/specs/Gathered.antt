@@ -16,7 +16,7 @@ use Rattle.text_rules.specs.Selection.{Rising}
 use Rattle.gate_rules.specs.Baseline.{Entry, entry_key}
 use Rattle.gate_rules.specs.Check.{stale}
 use Rattle.gate_rules.specs.Functions.{Fun, key}
-use Rattle.gate_rules.specs.StaleLaws.{stale-each, stale-only, stale-rising}
+use Rattle.gate_rules.proofs.StaleLaws.{stale-each, stale-only, stale-rising}
 use Rattle.in_order.specs.InOrder.{rising-same}
 use Rattle.in_order.specs.StaleKeys.{behind}
 use Rattle.batches.specs.Behind.{kept-rising}

@@ -11,13 +11,13 @@ use lib.Seq.{take-suc-set, drop-set-lt, drop-drop}
 use Rattle.answers.specs.declared.Answer.{Answer}
 use Rattle.text_rules.specs.Bytes.{◌or_else◌}
 use Rattle.text_rules.specs.Classes.{lf, space}
-use Rattle.text_rules.specs.ScanLaws.{or_else-same, or_else-some, split}
+use Rattle.text_rules.proofs.ScanLaws.{or_else-same, or_else-some, split}
 use Rattle.text_rules.specs.Search.{part}
-use Rattle.text_rules.specs.SearchLaws.{part_length}
+use Rattle.text_rules.proofs.SearchLaws.{part_length}
 use Rattle.text_rules.specs.Sizes.{max_tree}
 use Rattle.source_rules.specs.Blank.{blank_from, blanked, put, token_length}
 use Rattle.source_rules.specs.BlankCall.{blank_call, blank_number, blank_output}
-use Rattle.source_rules.specs.BlankLaws.{blanked-length}
+use Rattle.source_rules.proofs.BlankLaws.{blanked-length}
 use Rattle.blanking.specs.Bare.{Answered, finished}
 
 pub put-lf : (b : ℕ) → b ≡ lf → put 1 b ≡ lf

@@ -4,7 +4,7 @@ use Rattle.std.proofs.Common.{ap, subst, sym, ◌∙◌, inl, inr, add-zero, ari
 use Rattle.std.proofs.Math.Numerals.{add-one}
 use borrow.Author.Tests.{eq-eqb, eqb-true, eqb-false, ltb-false, ltb-true, ne_eqb}
 use Rattle.text_rules.specs.BytesLaws.{whether}
-use Rattle.text_rules.specs.ScanLaws.{bytes_before-more}
+use Rattle.text_rules.proofs.ScanLaws.{bytes_before-more}
 use Rattle.text_rules.specs.Search.{bytes_before, count_after}
 
 -- each of them passes

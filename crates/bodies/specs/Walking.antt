@@ -9,7 +9,7 @@ use Rattle.text_rules.specs.BytesLaws.{and_left, and_right, whether}
 use Rattle.text_rules.specs.Classes.{brace_open, semicolon, square_close, square_open}
 use Rattle.text_rules.specs.Search.{count_after}
 use Rattle.source_rules.specs.Finding.{angle_after, body_at, flat}
-use Rattle.source_rules.specs.WalkSteps.{body_end, body-step}
+use Rattle.source_rules.proofs.WalkSteps.{body_end, body-step}
 use Rattle.blocks.specs.Blocks.{count-behind, count_most, count_from}
 use Rattle.flat.specs.BodyLaws.{passed}
 use Rattle.flat.specs.LevelLaws.{body_same}

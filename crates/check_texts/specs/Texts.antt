@@ -4,7 +4,7 @@ use Rattle.std.proofs.Common.{ap, ap₂, sym, ◌∙◌, append_assoc, append-ni
 use Rattle.std.proofs.Math.ListN.{length-append}
 use Rattle.text_rules.specs.Bytes.{ascii, joined, put_at}
 use Rattle.text_rules.specs.Decimal.{decimal}
-use Rattle.text_rules.specs.WriterLaws.{joined_length, put_then}
+use Rattle.text_rules.proofs.WriterLaws.{joined_length, put_then}
 use Rattle.gate_rules.specs.Baseline.{Entry, entries_of_lines}
 use Rattle.gate_rules.specs.Check.{listed, listing, regressions, spaced, stale, stale_text, verdict_text}
 use Rattle.gate_rules.specs.Functions.{Fun, Limits}

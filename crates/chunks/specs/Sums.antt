@@ -9,8 +9,8 @@ use Rattle.text_rules.specs.Classes.{angle_close, angle_open, brace_open, round_
 use Rattle.text_rules.specs.Search.{count_after}
 use Rattle.source_rules.specs.Brackets.{partner}
 use Rattle.source_rules.specs.Finding.{angle_after, body_at, flat}
-use Rattle.source_rules.specs.MeasuresLaws.{count-after}
-use Rattle.source_rules.specs.WalkSteps.{partner_close, partner_open, partner-other}
+use Rattle.source_rules.proofs.MeasuresLaws.{count-after}
+use Rattle.source_rules.proofs.WalkSteps.{partner_close, partner_open, partner-other}
 use Rattle.blocks.specs.Blocks.{count-behind, count_none, count_from}
 use Rattle.flat.specs.Body.{Plain}
 use Rattle.flat.specs.BodyLaws.{passed}

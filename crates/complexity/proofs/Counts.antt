@@ -6,7 +6,7 @@ use native.Mathlib.Omega.{arith}
 use lib.ListN.{length, drop}
 use Rattle.text_rules.specs.Bytes.{joined, put_at}
 use Rattle.text_rules.specs.U32.{u32_bytes}
-use Rattle.text_rules.specs.WriterLaws.{put_then}
+use Rattle.text_rules.proofs.WriterLaws.{put_then}
 
 at-start : (xs s : List ℕ) → put_at 0 xs s ≡ xs ++ drop (length xs) s
 at-start xs s = let e : 0 + length xs ≡ length xs = omega arith in ap (λ n. xs ++ drop n s) e

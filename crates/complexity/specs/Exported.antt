@@ -3,7 +3,7 @@ use Rattle.std.specs.Prelude.{ℕ, zero, suc, ◌≤◌, ◌≡◌, refl, List, 
 use Rattle.std.proofs.Common.{ap, sym, ◌∙◌, arith}
 use Rattle.text_rules.specs.Bytes.{◌or_else◌, joined}
 use Rattle.text_rules.specs.U32.{u32_bytes}
-use Rattle.gate_rules.specs.ExportLaws.{EndsAs, TooFew}
+use Rattle.gate_rules.proofs.ExportLaws.{EndsAs, TooFew}
 use Rattle.gate_rules.specs.Exports.{Exported, ExportedBlank}
 use Rattle.gate_rules.specs.Tree.{tree_refusal}
 

@@ -7,7 +7,7 @@ use Rattle.text_rules.specs.Answer.{answer_at}
 use Rattle.text_rules.specs.Bytes.{◌or_else◌}
 use Rattle.text_rules.specs.U32.{u32_bytes, u32s_bytes}
 use Rattle.gate_rules.specs.Calls.{output_after, records_after, work_after}
-use Rattle.gate_rules.specs.ExportLaws.{EndsAs}
+use Rattle.gate_rules.proofs.ExportLaws.{EndsAs}
 use Rattle.gate_rules.specs.Exports.{export_number, exported_at, exported_report}
 use Rattle.gate_rules.specs.Functions.{Limits}
 use Rattle.gate_rules.specs.Gate.{gate}

@@ -13,7 +13,7 @@ use Rattle.gate_rules.specs.Functions.{Fun, Limits, gate_limits}
 use Rattle.gate_rules.specs.Gate.{gate}
 use Rattle.gate_rules.specs.Programs.{check_program, lent, printed, program_bytes}
 use Rattle.gate_rules.specs.Scan.{functions_of}
-use Rattle.gate_rules.specs.TableLaws.{checked_number}
+use Rattle.gate_rules.proofs.TableLaws.{checked_number}
 use Rattle.gate_rules.specs.Tree.{tree_refusal}
 use Rattle.gate_check.specs.declared.CheckAnswer.{CheckAnswer}
 use Rattle.gate_check.specs.Checks.{Checks}

@@ -8,7 +8,7 @@ use Rattle.text_rules.specs.Decimal.{decimal, digits}
 use Rattle.gate_rules.specs.Calls.{output_after}
 use Rattle.gate_rules.specs.Functions.{gate_limits}
 use Rattle.gate_rules.specs.Gate.{gate}
-use Rattle.gate_rules.specs.ProgramLaws.{report_longer}
+use Rattle.gate_rules.proofs.ProgramLaws.{report_longer}
 use Rattle.gate_rules.specs.Programs.{lent, printed, program_bytes, report_program}
 use Rattle.gate_rules.specs.Report.{empty_sums}
 use Rattle.gate_rules.specs.ReportCall.{Reported, report_call, report_number, report_of}

@@ -9,7 +9,7 @@ use Rattle.text_rules.specs.Decimal.{decimal, digits}
 use Rattle.gate_rules.specs.Calls.{Updated, update_call}
 use Rattle.gate_rules.specs.Functions.{gate_limits}
 use Rattle.gate_rules.specs.Gate.{gate}
-use Rattle.gate_rules.specs.ProgramLaws.{update_longer, update-no-file}
+use Rattle.gate_rules.proofs.ProgramLaws.{update_longer, update-no-file}
 use Rattle.gate_rules.specs.Programs.{lent, printed, program_bytes, update_file, update_program, written_at}
 use Rattle.gate_update.specs.declared.UpdateAnswer.{UpdateAnswer}
 use Rattle.gate_update.specs.Updates.{Updates, written-inside}

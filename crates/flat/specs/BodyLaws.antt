@@ -6,7 +6,7 @@ use Rattle.std.proofs.Math.Numerals.{add-one, sub-one}
 use Rattle.text_rules.specs.Classes.{angle_close, angle_open, brace_open, semicolon, square_close, square_open}
 use Rattle.text_rules.specs.Search.{count_after}
 use Rattle.source_rules.specs.Finding.{angle_after, body_at, flat}
-use Rattle.source_rules.specs.WalkSteps.{body-step}
+use Rattle.source_rules.proofs.WalkSteps.{body-step}
 use Rattle.flat.specs.Body.{Plain}
 
 -- past a byte that ends nothing

@@ -11,18 +11,18 @@ use Rattle.text_rules.specs.BytesLaws.{All-append}
 use Rattle.text_rules.specs.Search.{part}
 use Rattle.text_rules.specs.Sizes.{max_tree, record_width}
 use Rattle.text_rules.specs.U32.{u32_at, u32_bytes}
-use Rattle.text_rules.specs.U32Laws.{u32_drop, u32_read}
+use Rattle.text_rules.proofs.U32Laws.{u32_drop, u32_read}
 use Rattle.source_rules.specs.Blank.{blanked}
-use Rattle.source_rules.specs.BlankLaws.{blanked-length}
+use Rattle.source_rules.proofs.BlankLaws.{blanked-length}
 use Rattle.source_rules.specs.TextScan.{TextFun, functions}
-use Rattle.source_rules.specs.TextScanLaws.{Fine, functions-fine}
-use Rattle.gate_rules.specs.FileLaws.{span-is}
+use Rattle.source_rules.proofs.TextScanLaws.{Fine, functions-fine}
+use Rattle.gate_rules.proofs.FileLaws.{span-is}
 use Rattle.gate_rules.specs.Gate.{gate}
 use Rattle.gate_rules.specs.Records.{name_of, record_bytes, record_of, records, records_in, records_of_files, viewed}
-use Rattle.gate_rules.specs.RecordsLaws.{functions-viewed, record_u32, records-count}
+use Rattle.gate_rules.proofs.RecordsLaws.{functions-viewed, record_u32, records-count}
 use Rattle.gate_rules.specs.Scan.{functions_of}
 use Rattle.gate_rules.specs.Tree.{Source, entry_at, file_count, path_length, path_of, path_offset, source_at, sources, sources_from}
-use Rattle.gate_rules.specs.TreeLaws.{InTree, SoundTree, sources-placed, unrefused}
+use Rattle.gate_rules.proofs.TreeLaws.{InTree, SoundTree, sources-placed, unrefused}
 use Rattle.functions.specs.Shown.{Stand, no_fun, shown}
 use Rattle.functions.specs.declared.Function.{Function}
 

@@ -4,13 +4,13 @@ use Rattle.std.proofs.Common.{ap, ◌∙◌, arith, length-append, take_all, tak
 use Rattle.std.proofs.lemmas.List.{length-map}
 use Rattle.text_rules.specs.Bytes.{All, joined, overwritten}
 use Rattle.text_rules.specs.Sizes.{record_width}
-use Rattle.gate_rules.specs.BufferLaws.{wide-files}
+use Rattle.gate_rules.proofs.BufferLaws.{wide-files}
 use Rattle.gate_rules.specs.Calls.{room}
 use Rattle.gate_rules.specs.Gate.{gate}
 use Rattle.gate_rules.specs.Records.{record_bytes, records}
 use Rattle.gate_rules.specs.Scan.{functions_of}
 use Rattle.gate_rules.specs.Tree.{sources, tree_refusal}
-use Rattle.gate_rules.specs.TreeSizes.{tree-records}
+use Rattle.gate_rules.proofs.TreeSizes.{tree-records}
 use Rattle.functions.specs.Shown.{Stand}
 
 wide-joined : (rs : List (List ℕ)) → All (λ r. length r ≡ record_width) rs → length (joined rs) ≡ record_width * length rs

@@ -11,7 +11,7 @@ use Rattle.gate_rules.specs.Baseline.{entries, entries_of_lines, entry_of, entry
 use Rattle.gate_rules.specs.Check.{listing}
 use Rattle.gate_rules.specs.Functions.{Limits, is_comment}
 use Rattle.gate_rules.specs.Gate.{gate}
-use Rattle.gate_rules.specs.ListingSizes.{listing-length}
+use Rattle.gate_rules.proofs.ListingSizes.{listing-length}
 use Rattle.gate_rules.specs.Scan.{Accepted, functions_of}
 use Rattle.functions.specs.Shown.{Stand}
 

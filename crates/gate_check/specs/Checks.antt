@@ -17,7 +17,7 @@ use Rattle.gate_rules.specs.Check.{listing, regressions, stale}
 use Rattle.gate_rules.specs.Functions.{Fun, Limits}
 use Rattle.gate_rules.specs.Gate.{gate}
 use Rattle.gate_rules.specs.Scan.{functions_of}
-use Rattle.gate_rules.specs.TableLaws.{answer-number}
+use Rattle.gate_rules.proofs.TableLaws.{answer-number}
 use Rattle.gate_rules.specs.Tree.{tree_refusal}
 use Rattle.answers.specs.declared.Answer.{Answer}
 use Rattle.functions.specs.Shown.{Stand}

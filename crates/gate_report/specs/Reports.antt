@@ -12,16 +12,16 @@ use borrow.Author.Tests.{le-ltb, lt-ltb, ltb-false}
 use Rattle.text_rules.specs.Answer.{answer_at}
 use Rattle.text_rules.specs.Bytes.{◌or_else◌, ◌when◌, if◌then◌else◌, overwritten}
 use Rattle.text_rules.specs.BytesLaws.{map-append, or_else-first, or_else-rest, when-fails}
-use Rattle.gate_rules.specs.BufferLaws.{refusal-most}
+use Rattle.gate_rules.proofs.BufferLaws.{refusal-most}
 use Rattle.gate_rules.specs.Calls.{is_scanned, output_after, records_after, room, work_after}
 use Rattle.gate_rules.specs.Functions.{Limits}
 use Rattle.gate_rules.specs.Gate.{gate}
 use Rattle.gate_rules.specs.Report as rules
 use Rattle.gate_rules.specs.ReportCall.{Reported, report_call, report_number, report_of, sums_after, sums_of}
 use Rattle.gate_rules.specs.Scan.{functions_of}
-use Rattle.gate_rules.specs.SumLaws.{no_sum}
+use Rattle.gate_rules.proofs.SumLaws.{no_sum}
 use Rattle.gate_rules.specs.Tree.{file_count, sources, sources_from, tree_refusal}
-use Rattle.gate_rules.specs.TreeLaws.{laid_out, unrefused}
+use Rattle.gate_rules.proofs.TreeLaws.{laid_out, unrefused}
 use Rattle.answers.specs.declared.Answer.{Answer}
 use Rattle.gate_scan.specs.Scans.{blanked_work, filled}
 use Rattle.sums.specs.Sums.{first_entries, none, stored, told}

@@ -3,10 +3,10 @@ use Rattle.std.specs.Prelude.{ℕ, ◌+◌, ◌≤◌, ◌≡◌, List, [], ◌�
 use Rattle.std.proofs.Common.{ap, ap₂, sym, ◌∙◌, append_assoc, append-nil, arith}
 use Rattle.text_rules.specs.Bytes.{ascii, joined, overwritten, put_at, total}
 use Rattle.text_rules.specs.Decimal.{decimal}
-use Rattle.text_rules.specs.WriterLaws.{joined_length}
+use Rattle.text_rules.proofs.WriterLaws.{joined_length}
 use Rattle.gate_rules.specs.Functions.{Limits}
 use Rattle.gate_rules.specs.Gate.{gate}
-use Rattle.gate_rules.specs.ListingSizes.{report-length}
+use Rattle.gate_rules.proofs.ListingSizes.{report-length}
 use Rattle.gate_rules.specs.Mean.{mean_text}
 use Rattle.gate_rules.specs.Report.{report_rows, report_text, reported, weight_rows}
 use Rattle.gate_rules.specs.ReportCall.{report_of}

@@ -16,7 +16,7 @@ use Rattle.gate_rules.specs.Records.{blank_into, record_bytes, records}
 use Rattle.gate_rules.specs.Report.{FileSum, no_sum}
 use Rattle.gate_rules.specs.ReportCall.{Reported, report_of, sums_of}
 use Rattle.gate_rules.specs.Scan.{functions_of}
-use Rattle.gate_rules.specs.SumLaws.{sum_over}
+use Rattle.gate_rules.specs.SumOver.{sum_over}
 use Rattle.gate_rules.specs.Tree.{sources}
 use Rattle.gate_rules.specs.Update.{baseline_text, recorded}
 

@@ -45,10 +45,10 @@ TooLong text = 16777216 < length text
 -- An entry of 16 bytes whose path begins at the running place: path offset, path length, text offset, text length. Both offsets are the
 -- running place, the path has 1 to 1,024 bytes, and the text ends inside the tree.
 pub record EntryLaid (tree : List ℕ) (entry running : ℕ) : Type 0 where
-  pub path_offset_lem : u32_at tree entry ≡ running
+  pub path_offset : u32_at tree entry ≡ running
   pub path-some : 1 ≤ u32_at tree (entry + 4)
   pub path-short : u32_at tree (entry + 4) ≤ 1024
-  pub text_offset_lem : u32_at tree (entry + 8) ≡ running + u32_at tree (entry + 4)
+  pub text_offset : u32_at tree (entry + 8) ≡ running + u32_at tree (entry + 4)
   pub text-inside : u32_at tree (entry + 8) + u32_at tree (entry + 12) ≤ length tree
 
 -- `left` entries from `entry` on; the last running place is the end of the tree

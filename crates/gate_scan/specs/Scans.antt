@@ -6,7 +6,7 @@ use Rattle.std.proofs.Common.{subst, sym, ◌∙◌, arith}
 use borrow.Author.Tests.{le-ltb, lt-ltb}
 use Rattle.text_rules.specs.Answer.{answer_at}
 use Rattle.text_rules.specs.Bytes.{joined, overwritten}
-use Rattle.gate_rules.specs.BufferLaws.{records-length}
+use Rattle.gate_rules.proofs.BufferLaws.{records-length}
 use Rattle.gate_rules.specs.Calls.{Scanned, records_after, room, scan_call, scan_number, work_after}
 use Rattle.gate_rules.specs.Gate.{gate}
 use Rattle.gate_rules.specs.Records.{blank_into, record_bytes, records}

@@ -3,14 +3,15 @@ use Rattle.std.specs.Prelude.{ℕ, zero, suc, ◌+◌, ◌*◌, ◌≤◌, ◌<�
 use Rattle.std.proofs.Common.{ap, subst, sym, ◌∙◌, arith, length-take, length-drop}
 use Rattle.text_rules.specs.Bytes.{All, joined, overwritten}
 use Rattle.source_rules.specs.Blank.{blanked}
-use Rattle.gate_rules.specs.BufferLaws.{blank_length, wide-files}
+use Rattle.gate_rules.proofs.BufferLaws.{blank_length, wide-files}
 use Rattle.gate_rules.specs.Calls.{room}
-use Rattle.gate_rules.specs.FileLaws.{file-at}
-use Rattle.gate_rules.specs.RecordForms.{put-records-is, put_records}
+use Rattle.gate_rules.proofs.FileLaws.{file-at}
+use Rattle.gate_rules.specs.RecordForms.{put_records}
+use Rattle.gate_rules.proofs.RecordLaws.{put-records-is}
 use Rattle.gate_rules.specs.Records.{blank_into, record_bytes, records}
 use Rattle.gate_rules.specs.Tree.{Source, entry_at, file_count, source_at, sources, sources_from, text_in, text_length, text_offset}
-use Rattle.gate_rules.specs.TreeLaws.{SoundTree, sources-placed}
-use Rattle.gate_rules.specs.WorkLaws.{Holds, work-holds}
+use Rattle.gate_rules.proofs.TreeLaws.{SoundTree, sources-placed}
+use Rattle.gate_rules.proofs.WorkLaws.{Holds, work-holds}
 use Rattle.gate_scan.specs.Told.{TextsIn}
 
 -- what holds of all files holds of the one with a number

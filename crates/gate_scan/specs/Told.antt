@@ -9,10 +9,11 @@ use Rattle.text_rules.specs.Sizes.{record_width}
 use Rattle.text_rules.specs.U32.{u32_bytes}
 use Rattle.source_rules.specs.Blank.{blanked}
 use Rattle.source_rules.specs.TextScan.{TextFun, functions}
-use Rattle.gate_rules.specs.RecordForms.{put_record_length, put-records-append, put_record, put_records}
+use Rattle.gate_rules.specs.RecordForms.{put_record, put_records}
+use Rattle.gate_rules.proofs.RecordLaws.{put_record_length, put-records-append}
 use Rattle.gate_rules.specs.Records.{record_bytes, record_of, records_in, records_of_files}
-use Rattle.gate_rules.specs.RecordsLaws.{record_width_lem}
-use Rattle.gate_rules.specs.ScanForms.{sources-end, sources-step}
+use Rattle.gate_rules.proofs.RecordsLaws.{record_width_lem}
+use Rattle.gate_rules.proofs.ScanForms.{sources-end, sources-step}
 use Rattle.gate_rules.specs.Tree.{Source, entry_at, file_count, source_at, sources_from, text_in, text_length, text_offset}
 use Rattle.source.specs.declared.Cursor.{Cursor}
 use Rattle.source.specs.declared.Found.{Found}

@@ -12,10 +12,10 @@ use Rattle.text_rules.specs.BytesLaws.{or_else-first, or_else-rest, when-fails}
 use Rattle.gate_rules.specs.Calls.{Updated, output_after, records_after, room, scan_call, scan_number, update_answer, update_call, update_number, work_after}
 use Rattle.gate_rules.specs.Functions.{Limits}
 use Rattle.gate_rules.specs.Gate.{gate}
-use Rattle.gate_rules.specs.LeftLaws.{update-keeps}
+use Rattle.gate_rules.proofs.LeftLaws.{update-keeps}
 use Rattle.gate_rules.specs.Scan.{functions_of}
-use Rattle.gate_rules.specs.SettlesProof.{updated_enough}
-use Rattle.gate_rules.specs.TableLaws.{answer-number, updated_number}
+use Rattle.gate_rules.proofs.SettlesProof.{updated_enough}
+use Rattle.gate_rules.proofs.TableLaws.{answer-number, updated_number}
 use Rattle.gate_rules.specs.Tree.{tree_refusal}
 use Rattle.gate_rules.specs.Update.{baseline_text, recorded}
 use Rattle.answers.specs.declared.Answer.{Answer}

@@ -16,7 +16,7 @@ use Rattle.gate_rules.specs.Check.{stale}
 use Rattle.gate_rules.specs.Functions.{Fun, key}
 use Rattle.gate_rules.specs.Gate.{gate}
 use Rattle.gate_rules.specs.Scan.{functions_of}
-use Rattle.gate_rules.specs.StaleLaws.{stale-each, stale-only, stale-rising}
+use Rattle.gate_rules.proofs.StaleLaws.{stale-each, stale-only, stale-rising}
 use Rattle.baseline.specs.Ordered.{Unfalling, fallen, one_key}
 use Rattle.baseline.specs.Reads.{key_in}
 use Rattle.baseline.specs.declared.Key.{Key}

@@ -10,7 +10,7 @@ use Rattle.text_rules.specs.Search.{bytes_before, part}
 use Rattle.text_rules.specs.Utf8.{is_utf8}
 use Rattle.gate_rules.specs.Baseline.{entries_of_lines, entry_key, entry_of}
 use Rattle.gate_rules.specs.Check.{listed}
-use Rattle.gate_rules.specs.EntryLaws.{keys_fit}
+use Rattle.gate_rules.proofs.EntryLaws.{keys_fit}
 use Rattle.gate_rules.specs.Functions.{key}
 use Rattle.gate_rules.specs.Gate.{gate}
 use Rattle.gate_rules.specs.Scan.{functions_of}

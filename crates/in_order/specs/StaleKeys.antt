@@ -13,7 +13,7 @@ use Rattle.functions.specs.Shown.{Stand}
 use native.Mathlib.Omega.{arith}
 use Rattle.text_rules.specs.Utf8.{is_utf8}
 use Rattle.gate_rules.specs.Functions.{gate_limits}
-use Rattle.gate_rules.specs.ListingSizes.{listing-length, stale-count}
+use Rattle.gate_rules.proofs.ListingSizes.{listing-length, stale-count}
 use Rattle.listed_keys.specs.KeyLines.{key_lines}
 
 -- the records of the tree's functions stand, and there are n

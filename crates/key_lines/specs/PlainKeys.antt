@@ -2,7 +2,7 @@
 use Rattle.std.specs.Prelude.{ℕ, ◌+◌, ◌-◌, ◌≤◌, ◌<◌, min, ◌≡◌, true, List, length, drop, get_or}
 use Rattle.std.proofs.Common.{ap, sym, ◌∙◌, arith}
 use Rattle.std.proofs.Math.Option.{Option, none, some}
-use Rattle.text_rules.specs.ScanLaws.{rest_part}
+use Rattle.text_rules.proofs.ScanLaws.{rest_part}
 use Rattle.text_rules.specs.Search.{part}
 use Rattle.baseline.specs.declared.Key.{Key}
 use Rattle.baseline.specs.declared.Key.TheVariants.{Bytes, Nothing}

@@ -3,11 +3,11 @@ use Rattle.std.specs.Prelude.{ℕ, ◌+◌, ◌≤◌, ◌-◌, ◌≡◌, List,
 use Rattle.std.proofs.Common.{ap, sym, ◌∙◌, ap₂, arith, length-append, take-append-drop}
 use Rattle.text_rules.specs.Bytes.{ascii, put_at}
 use Rattle.text_rules.specs.BytesLaws.{map-append}
-use Rattle.text_rules.specs.WriterLaws.{joined_length, put-none}
+use Rattle.text_rules.proofs.WriterLaws.{joined_length, put-none}
 use Rattle.gate_rules.specs.Check.{listed, spaced}
-use Rattle.gate_rules.specs.LoopForms.{listed-append}
+use Rattle.gate_rules.proofs.LoopForms.{listed-append}
 use Rattle.listing.specs.Texts.{spaced-length}
-use Rattle.text_rules.specs.PutLaws.{put-length, put_next}
+use Rattle.text_rules.proofs.PutLaws.{put-length, put_next}
 use Rattle.text_rules.specs.Search.{part}
 use Rattle.key_lines.specs.Meets.{part_length}
 

@@ -7,12 +7,12 @@ use Rattle.std.proofs.Math.Option.{none, some}
 use Rattle.text_rules.specs.Bytes.{ascii, joined, put_at}
 use Rattle.text_rules.specs.BytesLaws.{map-append, whether}
 use Rattle.text_rules.specs.Classes.{tab}
-use Rattle.text_rules.specs.LineForms.{part-joined, piece-mark}
+use Rattle.text_rules.proofs.LineForms.{part-joined, piece-mark}
 use Rattle.text_rules.specs.Lines.{without_cr}
-use Rattle.text_rules.specs.ScanLaws.{bytes_before-more, bytes_before-stop, split}
+use Rattle.text_rules.proofs.ScanLaws.{bytes_before-more, bytes_before-stop, split}
 use Rattle.text_rules.specs.Search.{bytes_before, part, run}
-use Rattle.text_rules.specs.SearchLaws.{run_length}
-use Rattle.text_rules.specs.WriterLaws.{put_first, put-none}
+use Rattle.text_rules.proofs.SearchLaws.{run_length}
+use Rattle.text_rules.proofs.WriterLaws.{put_first, put-none}
 use Rattle.gate_rules.specs.Check.{listed, spaced}
 use Rattle.gate_rules.specs.Baseline.{entry_of}
 use Rattle.gate_rules.specs.Functions.{is_comment}

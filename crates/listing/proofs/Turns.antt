@@ -8,9 +8,9 @@ use lib.ListN.{length, drop, get_or, set, replicate, drop_of_length-le}
 use Rattle.text_rules.specs.Bytes.{if◌then◌else◌, put_at}
 use Rattle.text_rules.specs.Classes.{space, tab}
 use Rattle.text_rules.specs.Decimal.{decimal}
-use Rattle.text_rules.specs.DecimalSteps.{decimal-more, decimal-one, length_more, length-one}
-use Rattle.text_rules.specs.ScanLaws.{split}
-use Rattle.text_rules.specs.WriterLaws.{put_first, put_last, put-none}
+use Rattle.text_rules.proofs.DecimalSteps.{decimal-more, decimal-one, length_more, length-one}
+use Rattle.text_rules.proofs.ScanLaws.{split}
+use Rattle.text_rules.proofs.WriterLaws.{put_first, put_last, put-none}
 use Rattle.gate_rules.specs.Check.{spaced}
 
 -- nothing is written yet

@@ -2,8 +2,8 @@
 use Rattle.std.specs.Prelude.{ℕ, ◌+◌, ◌≤◌, ◌≡◌, refl, List, [], ◌++◌, length}
 use Rattle.std.proofs.Common.{ap, sym, ◌∙◌, arith, length-append}
 use Rattle.text_rules.specs.Bytes.{put_at}
-use Rattle.text_rules.specs.PutLaws.{put-length, put_next}
-use Rattle.text_rules.specs.WriterLaws.{put-none}
+use Rattle.text_rules.proofs.PutLaws.{put-length, put_next}
+use Rattle.text_rules.proofs.WriterLaws.{put-none}
 
 module _ (at : ℕ) (start whole : List ℕ) where
   -- the output is `out`, and `rest` is still to be put from `next` on

@@ -8,12 +8,12 @@ use Rattle.text_rules.specs.Bytes.{All, before}
 use Rattle.text_rules.specs.BytesLaws.{All-append, All-map, true_false, whether}
 use Rattle.text_rules.specs.Classes.{slash}
 use Rattle.source_rules.specs.TextScan.{TextFun, functions}
-use Rattle.gate_rules.specs.ConditionLaws.{paths_up}
+use Rattle.gate_rules.proofs.ConditionLaws.{paths_up}
 use Rattle.gate_rules.specs.Functions.{Fun}
 use Rattle.gate_rules.specs.Gate.{file_of, fun_of, functions_of_file, functions_of_files, gate}
 use Rattle.gate_rules.specs.Scan.{functions_of}
 use Rattle.gate_rules.specs.Tree.{PathsUp, Source, path_before, rank, sources, tree_refusal}
-use Rattle.gate_rules.specs.TreeLaws.{unrefused}
+use Rattle.gate_rules.proofs.TreeLaws.{unrefused}
 use Rattle.functions.specs.Shown.{no_fun}
 
 more : (b c : ℕ) → eqb b c ≡ eqb (suc b) (suc c)

@@ -5,7 +5,7 @@ use Rattle.text_rules.specs.Bytes.{same}
 use Rattle.text_rules.specs.BytesLaws.{true_false}
 use Rattle.gate_rules.specs.Functions.{key}
 use Rattle.gate_rules.specs.Gate.{gate}
-use Rattle.gate_rules.specs.GateLaws.{gate_laws}
+use Rattle.gate_rules.proofs.GateLaws.{gate_laws}
 use Rattle.gate_rules.specs.Scan.{Accepted, WellMade, functions_of}
 use Rattle.gate_rules.specs.Tree.{path_before}
 use Rattle.functions.specs.Shown.{Stand, no_fun}

@@ -12,7 +12,7 @@ use borrow.Author.Tests.{eqb-false, eqb-true, ltb-false, ltb-true}
 use Rattle.text_rules.specs.Bytes.{same}
 use Rattle.text_rules.specs.BytesLaws.{same_refl, same_true, true_false, whether}
 use Rattle.text_rules.specs.Decimal.{parse_number}
-use Rattle.text_rules.specs.LineForms.{part-joined, piece-mark}
+use Rattle.text_rules.proofs.LineForms.{part-joined, piece-mark}
 use Rattle.text_rules.specs.Search.{bytes_before, part}
 use Rattle.gate_rules.specs.Baseline.{entry_of, entry_with}
 use Rattle.gate_rules.specs.Functions.{key_of}

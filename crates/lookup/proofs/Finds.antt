@@ -9,7 +9,7 @@ use lib.ListN.{length, take, drop}
 use Rattle.text_rules.specs.Bytes.{same}
 use Rattle.text_rules.specs.Search.{bytes_before, part}
 use Rattle.gate_rules.specs.Baseline.{Entry, entries_of_lines, entry_of, later_of, lookup}
-use Rattle.gate_rules.specs.BaselineLaws.{later-none}
+use Rattle.gate_rules.proofs.BaselineLaws.{later-none}
 use Rattle.baseline.specs.Fields.{own_key}
 use Rattle.lookup.specs.Halves.{later}
 use Rattle.baseline.specs.Reads.{Inside, accepted_by, entry_in, hit, line_at}

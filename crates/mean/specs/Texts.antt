@@ -3,8 +3,8 @@ use Rattle.std.specs.Prelude.{ℕ, ◌+◌, ◌/◌, ◌%◌, max, ◌≡◌, re
 use Rattle.std.proofs.Common.{ap, ◌∙◌, arith}
 use Rattle.text_rules.specs.Bytes.{ascii, joined}
 use Rattle.text_rules.specs.Decimal.{decimal}
-use Rattle.text_rules.specs.DecimalSteps.{length-one}
-use Rattle.text_rules.specs.WriterLaws.{joined_length}
+use Rattle.text_rules.proofs.DecimalSteps.{length-one}
+use Rattle.text_rules.proofs.WriterLaws.{joined_length}
 use Rattle.gate_rules.specs.Mean.{mean_tenths, mean_text}
 
 -- tenths with a point

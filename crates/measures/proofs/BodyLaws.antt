@@ -12,14 +12,14 @@ use lib.Seq.{drop-drop, get_or-drop}
 use borrow.Author.Tests.{eq-eqb, ne_eqb}
 use Rattle.text_rules.specs.Bytes.{among, ascii, if◌then◌else◌, same}
 use Rattle.text_rules.specs.Classes.{ampersand, angle_close, bar, brace_close, brace_open, class_of, equals, is_letter, is_word, lf, question}
-use Rattle.text_rules.specs.ClassesLaws.{class_letter}
-use Rattle.text_rules.specs.ScanLaws.{head_at, split}
+use Rattle.text_rules.proofs.ClassesLaws.{class_letter}
+use Rattle.text_rules.proofs.ScanLaws.{head_at, split}
 use Rattle.text_rules.specs.Search.{count_after, opens, part, run}
 use Rattle.source_rules.specs.Brackets.{depth_after}
-use Rattle.source_rules.specs.BracketsLaws.{depth_close, depth_open, depth-other}
+use Rattle.source_rules.proofs.BracketsLaws.{depth_close, depth_open, depth-other}
 use Rattle.source_rules.specs.Measures.{cyclomatic_from, decides, deepest, is_pair, line_at, piece_length}
-use Rattle.source_rules.specs.PieceLaws.{cyclomatic_skip_left, piece_inside}
-use Rattle.source_rules.specs.WalkSteps.{cyclomatic-step, deepest-step, line_step}
+use Rattle.source_rules.proofs.PieceLaws.{cyclomatic_skip_left, piece_inside}
+use Rattle.source_rules.proofs.WalkSteps.{cyclomatic-step, deepest-step, line_step}
 
 module _ (s : List ℕ) (at : ℕ) (h : at < length s) where
   abbrev b : ℕ

@@ -15,11 +15,11 @@ use borrow.Author.Tests.{eqb-true, le-leb, ne_eqb}
 use Rattle.text_rules.specs.Bytes.{All}
 use Rattle.text_rules.specs.BytesLaws.{All-map, and_right, or_cases, true_false, whether}
 use Rattle.text_rules.specs.Classes.{ampersand, angle_close, bar, brace_close, brace_open, class_of, equals, is_letter, is_word, lf}
-use Rattle.text_rules.specs.ScanLaws.{head_at, split}
+use Rattle.text_rules.proofs.ScanLaws.{head_at, split}
 use Rattle.text_rules.specs.Search.{count_after, opens, run}
-use Rattle.text_rules.specs.SearchLaws.{run-all}
+use Rattle.text_rules.proofs.SearchLaws.{run-all}
 use Rattle.source_rules.specs.Brackets.{partner}
-use Rattle.source_rules.specs.BracketsLaws.{depth-other, partner-inside}
+use Rattle.source_rules.proofs.BracketsLaws.{depth-other, partner-inside}
 use Rattle.source_rules.specs.Measures.{decides, deepest, is_pair, line_at, piece_length}
 use Rattle.measures.proofs.BodyLaws.{pair-at, piece-room}
 

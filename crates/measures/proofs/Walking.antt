@@ -13,9 +13,9 @@ use Rattle.text_rules.specs.Bytes.{All, if◌then◌else◌}
 use Rattle.text_rules.specs.Classes.{brace_close, brace_open, is_letter, lf, question, space}
 use Rattle.text_rules.specs.Search.{opens, part}
 use Rattle.source_rules.specs.Brackets.{partner}
-use Rattle.source_rules.specs.BracketsLaws.{partner-inside}
+use Rattle.source_rules.proofs.BracketsLaws.{partner-inside}
 use Rattle.source_rules.specs.Measures.{cyclomatic_from, cyclomatic_of, decides, deepest, is_pair, line_at, lines_of, nesting_of, piece_length}
-use Rattle.source_rules.specs.WalkSteps.{cyclomatic-end, deepest-end, line-end, partner_close, partner-end, partner-found, partner_open, partner-other}
+use Rattle.source_rules.proofs.WalkSteps.{cyclomatic-end, deepest-end, line-end, partner_close, partner-end, partner-found, partner_open, partner-other}
 use Rattle.measures.proofs.BodyLaws.{byte-decides, byte-length, cyclomatic_jump, cyclomatic-same, deepest_close, deepest_open, deepest-other, line-lf, line_other, pair-at, piece-room}
 use Rattle.measures.proofs.Cut.{Inner, cut, cut-byte, cut_inside, decides-cut, deepest-inner, drop-take, front, inner, line-inner, piece-partner, size-cut}
 

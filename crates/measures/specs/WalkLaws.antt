@@ -5,7 +5,7 @@ use Rattle.std.proofs.Math.Option.{Option, none, some}
 use Rattle.text_rules.specs.Classes.{brace_close, brace_open}
 use Rattle.text_rules.specs.Search.{part}
 use Rattle.source_rules.specs.Brackets.{partner}
-use Rattle.source_rules.specs.PlaceLaws.{moved, partner-moved}
+use Rattle.source_rules.proofs.PlaceLaws.{moved, partner-moved}
 use Rattle.measures.specs.Walks.{MeasuredAt, MeasuredBody, WalkedFrom, end_of}
 use Rattle.measures.specs.declared.Body.{Body}
 use Rattle.measures.specs.declared.BodyAt.{BodyAt}

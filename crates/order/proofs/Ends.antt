@@ -8,7 +8,7 @@ use native.Mathlib.Omega.{arith}
 use lib.ListN.{length, drop, get_or, drop_of_length-le}
 use Rattle.text_rules.specs.Bytes.{same}
 use Rattle.text_rules.specs.BytesLaws.{same_refl, same_true, whether}
-use Rattle.text_rules.specs.ScanLaws.{split}
+use Rattle.text_rules.proofs.ScanLaws.{split}
 
 module _ (s t : List ℕ) (l : length s ≡ length t) where
   -- at the end nothing is left to differ

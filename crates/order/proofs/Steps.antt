@@ -7,7 +7,7 @@ use lib.Dec.{eqb, ltb}
 use lib.ListN.{length, drop, get_or, drop_of_length-le}
 use borrow.Author.Tests.{eq-eqb, le-ltb, lt-ltb, ne_eqb}
 use Rattle.text_rules.specs.Bytes.{before}
-use Rattle.text_rules.specs.ScanLaws.{split}
+use Rattle.text_rules.proofs.ScanLaws.{split}
 
 none_before : (s : List ℕ) → before s [] ≡ false
 none_before [] = refl

@@ -14,9 +14,10 @@ use Rattle.text_rules.specs.ByteOrder.{Orders}
 use Rattle.text_rules.specs.Bytes.{All, if◌then◌else◌, kept}
 use Rattle.text_rules.specs.BytesLaws.{All-map, and_left, and_right, kept_iff, or_cases, true_false, whether}
 use Rattle.text_rules.specs.Order.{insert, sort}
-use Rattle.text_rules.specs.OrderLaws.{sort_in}
-use Rattle.text_rules.specs.Selection.{Placed, Rising, ahead, ahead-asym, less_what, placed_from, sort-rising, sort-what}
-use Rattle.text_rules.specs.SortLaws.{Ascending, sort-stable}
+use Rattle.text_rules.proofs.OrderLaws.{sort_in}
+use Rattle.text_rules.specs.Selection.{Placed, Rising, ahead, less_what, placed_from}
+use Rattle.text_rules.proofs.SelectionLaws.{ahead-asym, sort-rising, sort-what}
+use Rattle.text_rules.proofs.SortLaws.{Ascending, sort-stable}
 use Rattle.order.specs.Best.{After, Best, Exactly, head_of, last_of, next-is}
 
 -- what is taken out of a list in order is in order: sorting what passes a test is the same before and after

@@ -9,7 +9,8 @@ use Rattle.std.proofs.lemmas.Bool.{eqb-false}
 use Rattle.text_rules.specs.ByteOrder.{Orders}
 use Rattle.text_rules.specs.Bytes.{All, ◌∈◌, if◌then◌else◌}
 use Rattle.text_rules.specs.BytesLaws.{All-append, whether}
-use Rattle.text_rules.specs.Selection.{Placed, ahead, ahead-asym, placed_from}
+use Rattle.text_rules.specs.Selection.{Placed, ahead, placed_from}
+use Rattle.text_rules.proofs.SelectionLaws.{ahead-asym}
 use Rattle.order.specs.Best.{After, Best, back_in, front_in}
 use Rattle.order.specs.Chosen.{Chosen, Fit, choice, choice-none, choice-some, fit_decided, fit_fails, fit_first, goes_first, item, other-first}
 use Rattle.order.specs.Picks.{ahead_trans, seen_all, seen_next}

@@ -12,11 +12,11 @@ use borrow.Author.Tests.{eq-eqb, eqb-true, ne_eqb}
 use Rattle.text_rules.specs.Bytes.{ascii}
 use Rattle.text_rules.specs.BytesLaws.{or_cases}
 use Rattle.text_rules.specs.Classes.{ampersand, comma, space}
-use Rattle.text_rules.specs.ScanLaws.{split}
+use Rattle.text_rules.proofs.ScanLaws.{split}
 use Rattle.text_rules.specs.Search.{ends_in, part, run, starts_with}
 use Rattle.text_rules.specs.WhiteSpace.{text_end, trimmed, white_end}
 use Rattle.source_rules.specs.Parameters.{counted, is_closing, is_opening, one, params_of, parts_from, squeezed, takes_self}
-use Rattle.source_rules.specs.WalkSteps.{parts-step}
+use Rattle.source_rules.proofs.WalkSteps.{parts-step}
 use Rattle.params.specs.Head.{head}
 
 -- a bracket is no comma, and an opening one does not close

@@ -8,7 +8,7 @@ use Rattle.std.proofs.lemmas.Bool.{eqb-false}
 use Rattle.text_rules.specs.BytesLaws.{whether}
 use Rattle.text_rules.specs.Classes.{round_close, round_open}
 use Rattle.source_rules.specs.Finding.{body_at}
-use Rattle.source_rules.specs.WalkSteps.{partner_close, partner-end, partner-found, partner_open, partner-other}
+use Rattle.source_rules.proofs.WalkSteps.{partner_close, partner-end, partner-found, partner_open, partner-other}
 use Rattle.windows.specs.Window.{Noted}
 use Rattle.chunks.specs.Passing.{TellsDepth}
 use Rattle.chunks.specs.declared.Past.TheVariants.{Depth}

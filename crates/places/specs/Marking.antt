@@ -8,7 +8,7 @@ use Rattle.text_rules.specs.Bytes.{if◌then◌else◌, same}
 use Rattle.text_rules.specs.BytesLaws.{whether}
 use Rattle.text_rules.specs.Search.{bytes_before, part}
 use Rattle.gate_rules.specs.Baseline.{Entry, entries_of_lines, entry_key, entry_of, later_of, lookup}
-use Rattle.gate_rules.specs.BaselineLaws.{later_assoc, later-none}
+use Rattle.gate_rules.proofs.BaselineLaws.{later_assoc, later-none}
 use Rattle.gate_rules.specs.Functions.{Fun, key}
 use Rattle.functions.specs.Shown.{no_fun}
 use Rattle.baseline.specs.Reads.{hit, key_of_entry, line_at}

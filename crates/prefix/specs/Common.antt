@@ -7,7 +7,7 @@ use Rattle.std.proofs.lemmas.Bool.{eqb-false}
 use Rattle.text_rules.specs.Bytes.{before, if◌then◌else◌, same}
 use Rattle.text_rules.specs.BytesLaws.{whether}
 use Rattle.text_rules.specs.Classes.{tab}
-use Rattle.text_rules.specs.ScanLaws.{split}
+use Rattle.text_rules.proofs.ScanLaws.{split}
 use Rattle.text_rules.specs.Search.{bytes_before, run}
 
 unfoldable pub common : List ℕ → List ℕ → ℕ

@@ -3,7 +3,7 @@ use Rattle.std.specs.Prelude.{ℕ, zero, suc, ◌<◌, ◌≡◌, refl, ◌⊎�
 use Rattle.std.proofs.Common.{ap, sym, ◌∙◌, inl, inr, arith, length-take, take_all, lt-ltb, ltb-false, ltb-true}
 use Rattle.text_rules.specs.Bytes.{◌or_else◌, ◌when◌}
 use Rattle.text_rules.specs.BytesLaws.{whether}
-use Rattle.gate_rules.specs.ProgramLaws.{check_longer, report_longer, update_longer, update-no-file}
+use Rattle.gate_rules.proofs.ProgramLaws.{check_longer, report_longer, update_longer, update-no-file}
 use Rattle.gate_rules.specs.Programs.{check_program, printed, program_bytes, report_program, update_file, update_program}
 use Rattle.gate_rules.specs.Tree.{tree_refusal}
 

@@ -5,8 +5,8 @@ use Rattle.std.proofs.lemmas.List.{length-replicate}
 use Rattle.io.specs.Counts.{IsPrefixLen}
 use Rattle.text_rules.specs.Bytes.{joined}
 use Rattle.text_rules.specs.Decimal.{decimal}
-use Rattle.text_rules.specs.PutLaws.{put-length}
-use Rattle.text_rules.specs.WriterLaws.{Puts}
+use Rattle.text_rules.proofs.PutLaws.{put-length}
+use Rattle.text_rules.proofs.WriterLaws.{Puts}
 use Rattle.gate_rules.specs.Programs.{lent, printed, program_bytes}
 
 -- the first n bytes of an output are a text

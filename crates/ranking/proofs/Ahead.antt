@@ -12,7 +12,7 @@ use Rattle.text_rules.specs.Bytes.{before, same}
 use Rattle.text_rules.specs.BytesLaws.{same_refl, same_true, true_false, whether}
 use Rattle.gate_rules.specs.Functions.{Fun}
 use Rattle.gate_rules.specs.Report.{worse}
-use Rattle.gate_rules.specs.RowOrders.{row_orders, worse_orders}
+use Rattle.gate_rules.proofs.RowOrders.{row_orders, worse_orders}
 use Rattle.gate_rules.specs.Update.{row_before}
 use Rattle.ranking.specs.Ranks.{decided}
 

@@ -5,7 +5,7 @@ use Rattle.text_rules.specs.Selection.{placed_from}
 use Rattle.gate_rules.specs.Functions.{Fun, Limits, over}
 use Rattle.gate_rules.specs.Gate.{gate}
 use Rattle.gate_rules.specs.Report.{worse}
-use Rattle.gate_rules.specs.RowOrders.{row_orders, worse_orders}
+use Rattle.gate_rules.proofs.RowOrders.{row_orders, worse_orders}
 use Rattle.gate_rules.specs.Scan.{functions_of}
 use Rattle.gate_rules.specs.Update.{row_before}
 use Rattle.order.specs.Chosen.{Chosen, goes_first}

@@ -5,7 +5,7 @@ use mathlib.Core.List.{List, [], ◌∷◌, ◌++◌}
 use native.Mathlib.Omega.{arith}
 use lib.ListN.{length}
 use Rattle.text_rules.specs.Bytes.{put_at}
-use Rattle.text_rules.specs.PutLaws.{put_next}
+use Rattle.text_rules.proofs.PutLaws.{put_next}
 use Rattle.text_rules.specs.U32.{u32_bytes}
 use Rattle.gate_rules.specs.Records.{record_bytes}
 

@@ -4,12 +4,12 @@ use Rattle.std.proofs.Common.{ap, subst, sym, ◌∙◌, append_assoc, append-ni
 use Rattle.std.proofs.Math.Option.{Option, none, some}
 use Rattle.text_rules.specs.Bytes.{ascii, if◌then◌else◌, joined}
 use Rattle.text_rules.specs.Decimal.{decimal}
-use Rattle.text_rules.specs.SearchLaws.{part_length}
-use Rattle.text_rules.specs.WriterLaws.{joined_length}
+use Rattle.text_rules.proofs.SearchLaws.{part_length}
+use Rattle.text_rules.proofs.WriterLaws.{joined_length}
 use Rattle.gate_rules.specs.Baseline.{Entry}
 use Rattle.gate_rules.specs.Check.{against, listed, location, more_branches, more_lines, new_and_over}
 use Rattle.gate_rules.specs.Functions.{Fun, Limits, over}
-use Rattle.gate_rules.specs.LoopForms.{listed-append}
+use Rattle.gate_rules.proofs.LoopForms.{listed-append}
 use Rattle.listing.specs.Texts.{located, located-length, located_length, location-is}
 use Rattle.baseline.specs.Reads.{accepted_by}
 use Rattle.baseline.specs.declared.Accepted.{Accepted}

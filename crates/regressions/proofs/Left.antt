@@ -7,12 +7,12 @@ use native.Mathlib.Numerals.{add-one}
 use lib.ListN.{length, drop, get_or, drop_of_length-le, length-append}
 use lib.Seq.{drop-cons}
 use Rattle.text_rules.specs.Bytes.{put_at}
-use Rattle.text_rules.specs.PutLaws.{put_next}
-use Rattle.text_rules.specs.WriterLaws.{put-none}
+use Rattle.text_rules.proofs.PutLaws.{put_next}
+use Rattle.text_rules.proofs.WriterLaws.{put-none}
 use Rattle.gate_rules.specs.Baseline.{Entry, lookup}
 use Rattle.gate_rules.specs.Check.{against, listed, regressions}
 use Rattle.gate_rules.specs.Functions.{Fun, Limits, key}
-use Rattle.gate_rules.specs.LoopForms.{listed-append}
+use Rattle.gate_rules.proofs.LoopForms.{listed-append}
 use Rattle.functions.specs.Shown.{no_fun}
 use Rattle.baseline.specs.Reads.{accepted_by}
 use Rattle.baseline.specs.declared.Accepted.{Accepted}

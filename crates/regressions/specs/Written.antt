@@ -2,10 +2,10 @@
 use Rattle.std.specs.Prelude.{ℕ, ◌+◌, ◌≤◌, ◌≡◌, List, [], ◌∷◌, ◌++◌, length}
 use Rattle.std.proofs.Common.{ap, ap₂, subst, sym, ◌∙◌, arith}
 use Rattle.text_rules.specs.Bytes.{put_at}
-use Rattle.text_rules.specs.PutLaws.{put-length, put_next}
-use Rattle.text_rules.specs.WriterLaws.{put-none}
+use Rattle.text_rules.proofs.PutLaws.{put-length, put_next}
+use Rattle.text_rules.proofs.WriterLaws.{put-none}
 use Rattle.gate_rules.specs.Check.{listed}
-use Rattle.gate_rules.specs.LoopForms.{listed-append}
+use Rattle.gate_rules.proofs.LoopForms.{listed-append}
 use Rattle.regression_sizes.specs.Lines.{both-length, told}
 
 -- lines put into `s` from `at` to `next`, which makes it `t`

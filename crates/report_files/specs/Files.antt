@@ -12,7 +12,7 @@ use Rattle.text_rules.specs.Selection.{Placed, placed_from}
 use Rattle.gate_rules.specs.Gate.{gate}
 use Rattle.gate_rules.specs.Report as rules
 use Rattle.gate_rules.specs.Report.{Weight, heavier, weight_rows, weights}
-use Rattle.gate_rules.specs.RowOrders.{heavier_orders}
+use Rattle.gate_rules.proofs.RowOrders.{heavier_orders}
 use Rattle.gate_rules.specs.Tree.{file_count}
 use Rattle.order.specs.Chosen.{Chosen, Fit, Taken, goes_first, item, left, left-all, left_end, left-next, taken_next, taken_none}
 use Rattle.report_rows.specs.Texts.{weight-rows-next, weight_row}

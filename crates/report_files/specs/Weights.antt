@@ -4,16 +4,17 @@ use Rattle.std.proofs.Common.{ap, ap₂, subst, sym, ◌∙◌, append-nil, arit
 use Rattle.std.proofs.lemmas.List.{length-map}
 use Rattle.text_rules.specs.Bytes.{All, if◌then◌else◌, kept, total}
 use Rattle.source_rules.specs.TextScan.{TextFun, functions}
-use Rattle.source_rules.specs.TextScanLaws.{Fine, functions-fine}
+use Rattle.source_rules.proofs.TextScanLaws.{Fine, functions-fine}
 use Rattle.gate_rules.specs.Functions.{Fun}
 use Rattle.gate_rules.specs.Gate.{file_of, fun_of, functions_of_file, functions_of_files, gate}
 use Rattle.gate_rules.specs.Records.{records}
 use Rattle.gate_rules.specs.Report.{Weight, sums_from, weight_of, weights}
 use Rattle.gate_rules.specs.ReportCall.{sums_of}
 use Rattle.gate_rules.specs.Scan.{File}
-use Rattle.gate_rules.specs.SumLaws.{file-sum, no_sum, sum_over}
+use Rattle.gate_rules.specs.SumOver.{sum_over}
+use Rattle.gate_rules.proofs.SumLaws.{file-sum, no_sum}
 use Rattle.gate_rules.specs.Tree.{entry_at, file_count, path_length, path_of, path_offset, source_at, sources, sources_from, is_laid_out, tree_refusal}
-use Rattle.gate_rules.specs.TreeLaws.{laid_out, unrefused}
+use Rattle.gate_rules.proofs.TreeLaws.{laid_out, unrefused}
 use Rattle.sums.specs.Sums.{Sums}
 
 abbrev pub no_weight : Weight

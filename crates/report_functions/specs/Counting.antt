@@ -9,7 +9,7 @@ use Rattle.std.proofs.Math.ListN.{length, drop, get_or, drop_of_length-le, lengt
 use Rattle.text_rules.specs.Bytes.{if◌then◌else◌, kept, total}
 use Rattle.text_rules.specs.BytesLaws.{total-same}
 use Rattle.text_rules.specs.Order.{sort}
-use Rattle.text_rules.specs.OrderLaws.{sort-total}
+use Rattle.text_rules.proofs.OrderLaws.{sort-total}
 use Rattle.gate_rules.specs.Functions.{Fun, Limits, over}
 use Rattle.gate_rules.specs.Report.{report_row, report_rows, reported, worse}
 use Rattle.gate_rules.specs.Update.{over_limit}

@@ -4,7 +4,7 @@ use Rattle.std.proofs.Common.{ap, sym, ◌∙◌, arith, length-drop, length-tak
 use Rattle.text_rules.specs.Search.{part}
 use Rattle.gate_rules.specs.Functions.{Fun, Limits, over}
 use Rattle.gate_rules.specs.Report.{report_row, report_rows, reported, worse}
-use Rattle.gate_rules.specs.RowOrders.{worse_orders}
+use Rattle.gate_rules.proofs.RowOrders.{worse_orders}
 use Rattle.gate_rules.specs.Update.{over_limit}
 use Rattle.functions.specs.Shown.{no_fun, shown}
 use Rattle.functions.specs.declared.Function.{Function}

@@ -3,7 +3,7 @@ use Rattle.std.specs.Prelude.{ℕ, ◌+◌, max, ◌≡◌, List, [], ◌∷◌,
 use Rattle.std.proofs.Common.{ap, ◌∙◌, append_assoc, append-nil, arith}
 use Rattle.text_rules.specs.Bytes.{ascii, joined}
 use Rattle.text_rules.specs.Decimal.{decimal}
-use Rattle.text_rules.specs.WriterLaws.{joined_length}
+use Rattle.text_rules.proofs.WriterLaws.{joined_length}
 use Rattle.gate_rules.specs.Check.{location}
 use Rattle.gate_rules.specs.Functions.{Fun}
 use Rattle.gate_rules.specs.Mean.{mean_text}

@@ -3,7 +3,7 @@ use Rattle.std.specs.Prelude.{ℕ, ◌+◌, ◌-◌, ◌≤◌, ◌≡◌, ◌�
 use Rattle.std.proofs.Common.{ap, subst, sym, ◌∙◌, arith}
 use Rattle.std.proofs.Math.Option.{none, some}
 use Rattle.text_rules.specs.BytesLaws.{some_same}
-use Rattle.source_rules.specs.PlaceLaws.{body-place}
+use Rattle.source_rules.proofs.PlaceLaws.{body-place}
 use Rattle.flat.specs.Body.{Counted, body_from}
 use Rattle.flat.specs.declared.Counts.{Counts}
 use Rattle.chunks.specs.Passing.{TellsDepth}

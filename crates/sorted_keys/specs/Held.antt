@@ -25,7 +25,7 @@ pub record Bounds (s starts ends : List ℕ) (i : ℕ) : Type 0 where
   pub starts-at : i < length starts
   pub ends_at : i < length ends
   pub rises : get_or starts i 0 ≤ get_or ends i 0
-  pub ends_in_lem : get_or ends i 0 ≤ length s
+  pub ends_in : get_or ends i 0 ≤ length s
 
 -- two arrays of 8,192 places hold m keys of a text that rise
 pub record Held (s starts ends : List ℕ) (m : ℕ) : Type 0 where
@@ -72,7 +72,7 @@ module _ (s starts ends : List ℕ) (m : ℕ) (h : Held s starts ends m) where
         starts-at = omega (arith, h.starts-room, h.few);
         ends_at = omega (arith, h.ends-room, h.few);
         rises = (h.inside i k).0;
-        ends_in_lem = (h.inside i k).1;
+        ends_in = (h.inside i k).1;
       }
 
   -- they are at most 8,192

@@ -8,10 +8,10 @@ use Rattle.source_rules.specs.Brackets.{partner}
 use Rattle.source_rules.specs.Finding.{Places, function_at, function_from, span_length}
 use Rattle.source_rules.specs.Measures.{cyclomatic_of, lines_of, nesting_of}
 use Rattle.source_rules.specs.Parameters.{params_of}
-use Rattle.source_rules.specs.PlaceLaws.{block_from, places_at}
+use Rattle.source_rules.proofs.PlaceLaws.{block_from, places_at}
 use Rattle.source_rules.specs.TextScan.{TextFun, functions_from, measured}
-use Rattle.source_rules.specs.TextScanLaws.{Fine}
-use Rattle.source_rules.specs.TextScanSteps.{byte_before}
+use Rattle.source_rules.proofs.TextScanLaws.{Fine}
+use Rattle.source_rules.proofs.TextScanSteps.{byte_before}
 use Rattle.search.specs.Place.{Learned}
 use Rattle.measures.specs.Walks.{MeasuredBody}
 use Rattle.passing.specs.declared.Spot.{Spot}

@@ -13,15 +13,15 @@ use Rattle.text_rules.specs.Classes.{brace_close, brace_open, hash, is_space, is
 use Rattle.text_rules.specs.Search.{◌and_then◌, count_after, find, part, run}
 use Rattle.source_rules.specs.Brackets.{partner}
 use Rattle.source_rules.specs.Finding.{Places, body_at, function_at, function_from, name_end, name_start, span_length}
-use Rattle.source_rules.specs.FindingLaws.{function_nameless}
+use Rattle.source_rules.proofs.FindingLaws.{function_nameless}
 use Rattle.source_rules.specs.Measures.{cyclomatic_of, lines_of, nesting_of}
-use Rattle.source_rules.specs.MeasuresLaws.{count-after}
+use Rattle.source_rules.proofs.MeasuresLaws.{count-after}
 use Rattle.source_rules.specs.Parameters.{params_of}
-use Rattle.source_rules.specs.PlaceLaws.{body-place, find-place, moved_places, part-rest, partner-place, places_at}
+use Rattle.source_rules.proofs.PlaceLaws.{body-place, find-place, moved_places, part-rest, partner-place, places_at}
 use Rattle.source_rules.specs.TextScan.{TextFun, functions_from, measured, sought}
-use Rattle.source_rules.specs.TextScanLaws.{Fine, Here, fine}
-use Rattle.source_rules.specs.TextScanSteps.{byte_before, function_at_lem, functions-past, name-from, name-to, no_function, no-hash, other_byte}
-use Rattle.source_rules.specs.WalkSteps.{functions-end, functions-some, sought_in_span, sought-no_word, sought-skipped}
+use Rattle.source_rules.proofs.TextScanLaws.{Fine, Here, fine}
+use Rattle.source_rules.proofs.TextScanSteps.{byte_before, function_at_lem, functions-past, name-from, name-to, no_function, no-hash, other_byte}
+use Rattle.source_rules.proofs.WalkSteps.{functions-end, functions-some, sought_in_span, sought-no_word, sought-skipped}
 use Rattle.blocks.specs.Blocks.{count-behind, count_from}
 use Rattle.passing.specs.Passing.{Passed}
 use Rattle.passing.specs.declared.Spot.{Spot}

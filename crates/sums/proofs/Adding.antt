@@ -13,11 +13,12 @@ use Rattle.text_rules.specs.Bytes.{total}
 use Rattle.text_rules.specs.BytesLaws.{total-map, whether}
 use Rattle.gate_rules.specs.Gate.{gate}
 use Rattle.gate_rules.specs.Records.{records, viewed}
-use Rattle.gate_rules.specs.RecordsLaws.{functions-viewed}
+use Rattle.gate_rules.proofs.RecordsLaws.{functions-viewed}
 use Rattle.gate_rules.specs.Scan.{functions_of}
-use Rattle.gate_rules.specs.SumLaws.{share_of, sum-append, sum_over}
-use Rattle.gate_rules.specs.TreeLaws.{laid_out, unrefused}
-use Rattle.gate_rules.specs.TreeSizes.{tree_branches}
+use Rattle.gate_rules.specs.SumOver.{share_of, sum_over}
+use Rattle.gate_rules.proofs.SumLaws.{sum-append}
+use Rattle.gate_rules.proofs.TreeLaws.{laid_out, unrefused}
+use Rattle.gate_rules.proofs.TreeSizes.{tree_branches}
 use Rattle.functions.specs.Shown.{Stand}
 use Rattle.functions.proofs.Read.{tells-here}
 use Rattle.sums.specs.Sums.{Sums}

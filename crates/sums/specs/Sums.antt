@@ -2,7 +2,7 @@
 use Rattle.std.specs.Prelude.{ℕ, zero, suc, ◌<◌, ◌≡◌, List, [], ◌∷◌, ◌++◌, length, get_or}
 use Rattle.gate_rules.specs.Records.{records}
 use Rattle.gate_rules.specs.Report as rules
-use Rattle.gate_rules.specs.SumLaws.{sum_over}
+use Rattle.gate_rules.specs.SumOver.{sum_over}
 use Rattle.sums.specs.declared.FileSum.{FileSum}
 
 abbrev pub entry : ℕ → ℕ → FileSum

@@ -13,7 +13,7 @@ use Rattle.text_rules.specs.Bytes.{overwritten}
 use Rattle.gate_rules.specs.Gate.{file_of, functions_of_files, gate}
 use Rattle.gate_rules.specs.Report.{sums_from}
 use Rattle.gate_rules.specs.ReportCall.{sums_of}
-use Rattle.gate_rules.specs.SumLaws.{file-sum, no_sum}
+use Rattle.gate_rules.proofs.SumLaws.{file-sum, no_sum}
 use Rattle.gate_rules.specs.Tree.{file_count, sources, sources_from}
 use Rattle.sums.specs.Sums.{Sums, entry, first_entries, none, stored}
 use Rattle.sums.specs.declared.FileSum.{FileSum}

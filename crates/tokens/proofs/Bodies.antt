@@ -9,7 +9,7 @@ use borrow.Author.Tests.{eq-eqb, ne_eqb, le-leb, lt-leb}
 use lib.Dec.{eqb}
 use lib.ListN.{length, get_or, drop, drop_of_length-le}
 use Rattle.text_rules.specs.Classes.{backslash, hash, quote, slash, star}
-use Rattle.text_rules.specs.ScanLaws.{run_more, run-stop, split}
+use Rattle.text_rules.proofs.ScanLaws.{run_more, run-stop, split}
 use Rattle.source_rules.specs.Blank.{block_length, hashes, raw_length, string_length}
 
 module _ (s : List ℕ) (i : ℕ) (h : i < length s) where

@@ -11,9 +11,9 @@ use lib.ListN.{length, get_or, take, drop, length-drop}
 use lib.Seq.{get_or-drop, drop-drop}
 use Rattle.text_rules.specs.Bytes.{◌or_else◌}
 use Rattle.text_rules.specs.Classes.{apostrophe, backslash, is_word, letter_b, letter_r, lf, quote, slash, star}
-use Rattle.text_rules.specs.ScanLaws.{bytes_before-more, head_at, opens_at, or_else_zero, take_same}
+use Rattle.text_rules.proofs.ScanLaws.{bytes_before-more, head_at, opens_at, or_else_zero, take_same}
 use Rattle.text_rules.specs.Search.{bytes_before, opens}
-use Rattle.text_rules.specs.SearchLaws.{in_text}
+use Rattle.text_rules.proofs.SearchLaws.{in_text}
 use Rattle.source_rules.specs.Blank.{block_length, block_token, char_token, escape_token, hashes, line_token, raw_length, raw_letters, raw_token, string_length, string_token, token_length}
 
 -- a rule at the head of `d` whose first byte is not there

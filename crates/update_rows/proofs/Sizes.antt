@@ -10,10 +10,10 @@ use lib.Seq.{drop-cons}
 use Rattle.text_rules.specs.Bytes.{kept, total}
 use Rattle.text_rules.specs.BytesLaws.{total-same}
 use Rattle.text_rules.specs.Order.{sort}
-use Rattle.text_rules.specs.OrderLaws.{sort-total}
+use Rattle.text_rules.proofs.OrderLaws.{sort-total}
 use Rattle.gate_rules.specs.Functions.{Fun, Limits, over}
 use Rattle.gate_rules.specs.Gate.{gate}
-use Rattle.gate_rules.specs.ListingSizes.{baseline-length, recorded-most}
+use Rattle.gate_rules.proofs.ListingSizes.{baseline-length, recorded-most}
 use Rattle.gate_rules.specs.Scan.{Accepted, functions_of}
 use Rattle.gate_rules.specs.Update.{baseline_text, header, over_limit, recorded, row, row_before, rows}
 use Rattle.functions.specs.Shown.{Stand, no_fun}

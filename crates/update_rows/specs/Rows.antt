@@ -4,9 +4,9 @@ use Rattle.std.proofs.Common.{ap, ap₂, sym, ◌∙◌, append_assoc, arith, le
 use Rattle.text_rules.specs.Bytes.{ascii, joined, overwritten, put_at}
 use Rattle.text_rules.specs.Classes.{lf}
 use Rattle.text_rules.specs.Decimal.{decimal}
-use Rattle.text_rules.specs.WriterLaws.{joined_length, put_then}
+use Rattle.text_rules.proofs.WriterLaws.{joined_length, put_then}
 use Rattle.gate_rules.specs.Functions.{Fun, Limits, over}
-use Rattle.gate_rules.specs.RowOrders.{row_orders}
+use Rattle.gate_rules.proofs.RowOrders.{row_orders}
 use Rattle.gate_rules.specs.Update.{baseline_text, header, over_limit, recorded, row, row_before, rows}
 use Rattle.functions.specs.Shown.{Lies, no_fun}
 use Rattle.functions.specs.declared.Function.{Function}

@@ -8,11 +8,11 @@ use native.Mathlib.Numerals.{add-one}
 use native.Mathlib.Omega.{arith}
 use lib.ListN.{drop, drop_of_length-le, get_or, length, length-drop}
 use lib.Seq.{drop-drop, get_or-drop}
-use Rattle.text_rules.specs.ScanLaws.{split}
+use Rattle.text_rules.proofs.ScanLaws.{split}
 use Rattle.text_rules.specs.Search.{opens}
 use Rattle.text_rules.specs.Utf8.{within}
 use Rattle.text_rules.specs.WhiteSpace.{is_wide_space, text_end, white_end, white_length}
-use Rattle.text_rules.specs.WhiteSpaceLaws.{text_skip_left, white_inside, white_skip_left}
+use Rattle.text_rules.proofs.WhiteSpaceLaws.{text_skip_left, white_inside, white_skip_left}
 
 -- only the first three bytes matter
 three_bytes : (t : List ℕ) → white_length t ≡ white_length (get_or t 0 0 ∷ get_or t 1 0 ∷ get_or t 2 0 ∷ [])

@@ -11,10 +11,10 @@ use lib.ListN.{get_or-eq_default, drop, drop_of_length-le, get_or, length}
 use borrow.Author.Tests.{leb-true, lt-leb, ltb-false, ltb-true}
 use Rattle.blocks.specs.Blocks.{Below}
 use Rattle.text_rules.specs.BytesLaws.{and_left, whether}
-use Rattle.text_rules.specs.ScanLaws.{split}
-use Rattle.text_rules.specs.SearchLaws.{in_text}
+use Rattle.text_rules.proofs.ScanLaws.{split}
+use Rattle.text_rules.proofs.SearchLaws.{in_text}
 use Rattle.text_rules.specs.Utf8.{Range, ◌to◌, go_on, is_utf8, well_formed_after, within}
-use Rattle.text_rules.specs.Utf8Cuts.{ascii-first}
+use Rattle.text_rules.proofs.Utf8Cuts.{ascii-first}
 use Rattle.utf8.specs.Awaits.{Character, Row, row_of, tails}
 use Rattle.utf8.specs.declared.Awaited.{Awaited}
 

@@ -3,7 +3,7 @@ use Prim.Native.Nat.{◌+◌, ◌<◌}
 use mathlib.Core.Path.{◌≡◌, sym, ◌∙◌}
 use native.Mathlib.Omega.{arith}
 use lib.ListN.{length, drop}
-use Rattle.text_rules.specs.LineForms.{piece-mark}
+use Rattle.text_rules.proofs.LineForms.{piece-mark}
 use Rattle.text_rules.specs.Search.{bytes_before}
 use Rattle.baseline.specs.Fields.{four-fields, no-entry, one_field, three-fields, two_fields}
 use Rattle.baseline.proofs.entry_with.Goals as goal

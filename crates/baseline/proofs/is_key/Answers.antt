@@ -5,7 +5,7 @@ use native.Mathlib.Omega.{arith}
 use lib.ListN.{length}
 use lib.Seq.{length-take-le}
 use Rattle.text_rules.specs.Bytes.{same}
-use Rattle.text_rules.specs.ScanLaws.{rest_part}
+use Rattle.text_rules.proofs.ScanLaws.{rest_part}
 use Rattle.baseline.proofs.Keys.{key-other, key-path, key-short, key-tab}
 use Rattle.baseline.proofs.is_key.Goals as goal
 

@@ -1,7 +1,7 @@
 -- `baseline::measured` meets its contract: an entry is there exactly if both numbers are read, and the first is within u32.
 use mathlib.Core.Path.{refl}
 use native.Mathlib.Omega.{arith}
-use Rattle.text_rules.specs.DecimalLaws.{number_read}
+use Rattle.text_rules.proofs.DecimalLaws.{number_read}
 use Rattle.baseline.specs.Fields.{both_read, first_bad, second_bad, was_read}
 use Rattle.baseline.proofs.measured.Goals as goal
 

@@ -4,7 +4,7 @@ use mathlib.Core.Path.{refl}
 use mathlib.Core.Bool.{not}
 use native.Mathlib.Omega.{arith}
 use lib.Dec.{eqb}
-use Rattle.text_rules.specs.ScanLaws.{bytes_before-more, bytes_before-stop, run_end}
+use Rattle.text_rules.proofs.ScanLaws.{bytes_before-more, bytes_before-stop, run_end}
 use Rattle.baseline.proofs.next.Goals as goal
 
 pub loop-at-init : goal.loop-at-init

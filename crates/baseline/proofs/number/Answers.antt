@@ -2,8 +2,8 @@
 use mathlib.Core.Path.{ap, sym, ◌∙◌}
 use native.Mathlib.Omega.{arith}
 use Rattle.text_rules.specs.Decimal.{numeral}
-use Rattle.text_rules.specs.ScanLaws.{rest_part}
-use Rattle.text_rules.specs.SearchLaws.{in_text}
+use Rattle.text_rules.proofs.ScanLaws.{rest_part}
+use Rattle.text_rules.proofs.SearchLaws.{in_text}
 use Rattle.baseline.proofs.Numbers.{plus-first, plus_none}
 use Rattle.baseline.proofs.number.Goals as goal
 

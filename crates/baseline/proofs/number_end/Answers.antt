@@ -5,5 +5,5 @@ use Rattle.baseline.proofs.number_end.Goals as goal
 pub returns : goal.returns
 returns c = (
   c.digits_end-end.ensures.0,
-  λ h. record { digits = c.digits_end-end.ensures.2; some_digit_lem = h; few = omega arith; inside = omega (arith, c.if-end-s.false, c.digits_end-end.ensures.1); mark = c.if-s-end.false },
+  λ h. record { digits = c.digits_end-end.ensures.2; some_digit = h; few = omega arith; inside = omega (arith, c.if-end-s.false, c.digits_end-end.ensures.1); mark = c.if-s-end.false },
 )

@@ -3,7 +3,7 @@ use mathlib.Core.Path.{sym}
 use native.Mathlib.Omega.{arith}
 use lib.ListN.{length}
 use borrow.Author.Tests.{le-ltb, lt-ltb}
-use Rattle.text_rules.specs.LineForms.{trim-cr, trim-none, trim-other}
+use Rattle.text_rules.proofs.LineForms.{trim-cr, trim-none, trim-other}
 use Rattle.baseline.proofs.trimmed_end.Goals as goal
 
 pub returns-then-end-s : goal.returns-then-end-s

@@ -37,13 +37,13 @@ pub slice_bounds-line_bytes-start : goal.slice_bounds-line_bytes-start
 slice_bounds-line_bytes-start c =
     let a = c.args in
     let b = held_bounds a.lines.now a.starts.now a.ends.now a.m c.requires.0 c.loop-i.i c.loop-i-test.true in
-    search (rules, b.rises, b.ends_in_lem)
+    search (rules, b.rises, b.ends_in)
 
 pub slice_bounds-line_bytes-end : goal.slice_bounds-line_bytes-end
 slice_bounds-line_bytes-end c =
     let a = c.args in
     let b = held_bounds a.lines.now a.starts.now a.ends.now a.m c.requires.0 c.loop-i.i c.loop-i-test.true in
-    search (rules, b.rises, b.ends_in_lem)
+    search (rules, b.rises, b.ends_in)
 
 pub line_bytes-bytes-requires : goal.line_bytes-bytes-requires
 line_bytes-bytes-requires c =

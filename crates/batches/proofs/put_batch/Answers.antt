@@ -6,9 +6,9 @@ use native.Mathlib.Omega.{arith}
 use lib.ListN.{length, take, length-append}
 use borrow.Author.Rules.{rules}
 use Rattle.text_rules.specs.Bytes.{put_at}
-use Rattle.text_rules.specs.PutLaws.{put-length}
+use Rattle.text_rules.proofs.PutLaws.{put-length}
 use Rattle.text_rules.specs.Search.{part}
-use Rattle.text_rules.specs.WriterLaws.{put-none, put_then}
+use Rattle.text_rules.proofs.WriterLaws.{put-none, put_then}
 use Rattle.gate_rules.specs.Check.{listed, spaced}
 use Rattle.listed_keys.specs.KeyLines.{key_lines, line-length, lines-most}
 use Rattle.sorted_keys.specs.Held.{held_bounds, key_at, keys_at}
@@ -41,13 +41,13 @@ pub slice_bounds-put_key-start : goal.slice_bounds-put_key-start
 slice_bounds-put_key-start c =
     let a = c.args in
     let b = held_bounds a.lines.now a.starts.now a.ends.now a.m c.requires.0 c.loop-i.i c.loop-i-test.true in
-    search (rules, b.rises, b.ends_in_lem)
+    search (rules, b.rises, b.ends_in)
 
 pub slice_bounds-put_key-end : goal.slice_bounds-put_key-end
 slice_bounds-put_key-end c =
     let a = c.args in
     let b = held_bounds a.lines.now a.starts.now a.ends.now a.m c.requires.0 c.loop-i.i c.loop-i-test.true in
-    search (rules, b.rises, b.ends_in_lem)
+    search (rules, b.rises, b.ends_in)
 
 pub put_key-done-requires : goal.put_key-done-requires
 put_key-done-requires c =

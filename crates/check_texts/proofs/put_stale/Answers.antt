@@ -4,7 +4,7 @@ use mathlib.Core.Path.{◌∙◌, ap, sym}
 use native.Mathlib.Omega.{arith}
 use lib.ListN.{length}
 use Rattle.text_rules.specs.Bytes.{put_at}
-use Rattle.text_rules.specs.WriterLaws.{put-none}
+use Rattle.text_rules.proofs.WriterLaws.{put-none}
 use Rattle.in_order.specs.StaleKeys.{stale_in}
 use Rattle.check_texts.specs.Texts.{stale-none, stale-some}
 use Rattle.check_texts.proofs.put_stale.Goals as goal

@@ -3,7 +3,7 @@ use mathlib.Core.Path.{ap, ◌∙◌}
 use native.Mathlib.Omega.{arith}
 use lib.ListN.{length}
 use Rattle.text_rules.specs.Bytes.{put_at}
-use Rattle.text_rules.specs.WriterLaws.{Puts, puts-all, puts_none, puts_then}
+use Rattle.text_rules.proofs.WriterLaws.{Puts, puts-all, puts_none, puts_then}
 use Rattle.in_order.specs.StaleKeys.{stale_in}
 use Rattle.check_texts.specs.Texts.{stale-some, stale-text, stale_parts}
 use Rattle.check_texts.proofs.put_stale_text.Goals as goal

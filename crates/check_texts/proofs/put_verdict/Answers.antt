@@ -4,7 +4,7 @@ use mathlib.Core.Path.{◌∙◌, ap, sym}
 use native.Mathlib.Omega.{arith}
 use lib.ListN.{length}
 use Rattle.text_rules.specs.Bytes.{put_at}
-use Rattle.text_rules.specs.WriterLaws.{Puts, puts-all, puts_none, puts-sized, puts_then}
+use Rattle.text_rules.proofs.WriterLaws.{Puts, puts-all, puts_none, puts-sized, puts_then}
 use Rattle.functions.specs.Shown.{limits_of}
 use Rattle.listing.specs.Texts.{regression_count-length}
 use Rattle.check_texts.specs.Texts.{verdict-none, verdict-some, verdict-text, verdict_parts, worse_in}

@@ -2,7 +2,7 @@
 use mathlib.Core.Path.{ap, ◌∙◌}
 use Prim.Native.Nat.{ℕ}
 use lib.Dec.{eqb}
-use Rattle.text_rules.specs.ClassesLaws.{class_letter}
+use Rattle.text_rules.proofs.ClassesLaws.{class_letter}
 use Rattle.classes.proofs.is_letter.Goals as goal
 
 pub returns : goal.returns

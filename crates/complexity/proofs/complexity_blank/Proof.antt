@@ -1,7 +1,7 @@
 -- `complexity::complexity_blank` meets its contract: it is the call blank.
 use mathlib.Core.Path.{sym, ◌∙◌}
 use borrow.Author.Rules.{rules}
-use Rattle.gate_rules.specs.ExportLaws.{blank_export}
+use Rattle.gate_rules.proofs.ExportLaws.{blank_export}
 use Rattle.complexity.proofs.complexity_blank.Statement.{statement}
 use Rattle.complexity.proofs.complexity_blank.Tie as tie
 

@@ -1,7 +1,7 @@
 -- `complexity::complexity_check` meets its contract: it is the call check, with its counts put.
 use mathlib.Core.List.{[], ◌∷◌}
 use borrow.Author.Rules.{rules}
-use Rattle.gate_rules.specs.ExportLaws.{check_export, check_export_short}
+use Rattle.gate_rules.proofs.ExportLaws.{check_export, check_export_short}
 use Rattle.gate_rules.specs.Functions.{gate_limits}
 use Rattle.complexity.specs.Exported.{ends_as, ends-short}
 use Rattle.complexity.proofs.complexity_check.Statement.{statement}

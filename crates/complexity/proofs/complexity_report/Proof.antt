@@ -1,7 +1,7 @@
 -- `complexity::complexity_report` meets its contract: it is the call report, with its counts put.
 use mathlib.Core.List.{[], ◌∷◌}
 use borrow.Author.Rules.{rules}
-use Rattle.gate_rules.specs.ExportLaws.{report_export_short}
+use Rattle.gate_rules.proofs.ExportLaws.{report_export_short}
 use Rattle.gate_rules.specs.Functions.{gate_limits}
 use Rattle.complexity.specs.Exported.{ends_as, ends-short}
 use Rattle.complexity.specs.OwnTable.{report-own_export}

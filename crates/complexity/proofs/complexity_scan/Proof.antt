@@ -2,7 +2,7 @@
 use mathlib.Core.Path.{refl, ap}
 use mathlib.Core.List.{[], ◌∷◌}
 use borrow.Author.Rules.{rules}
-use Rattle.gate_rules.specs.ExportLaws.{scan_export, scan_export_short}
+use Rattle.gate_rules.proofs.ExportLaws.{scan_export, scan_export_short}
 use Rattle.complexity.specs.Exported.{ends_as, ends-short}
 use Rattle.complexity.proofs.complexity_scan.Statement.{statement}
 use Rattle.complexity.proofs.complexity_scan.Tie as tie

@@ -4,8 +4,8 @@ use native.Mathlib.Omega.{arith}
 use lib.ListN.{length-append}
 use Rattle.text_rules.specs.Bytes.{ascii}
 use Rattle.text_rules.specs.Decimal.{decimal}
-use Rattle.text_rules.specs.DecimalLaws.{decimal-length}
-use Rattle.text_rules.specs.WriterLaws.{Puts, puts_none, puts_then}
+use Rattle.text_rules.proofs.DecimalLaws.{decimal-length}
+use Rattle.text_rules.proofs.WriterLaws.{Puts, puts_none, puts_then}
 use Rattle.programs.specs.Lines.{line-put}
 use Rattle.complexity_update.proofs.put_closing.Goals as goal
 

@@ -5,7 +5,7 @@ use mathlib.Core.Path.{◌≡◌, refl, subst, sym, ◌∙◌}
 use native.Mathlib.Omega.{arith}
 use lib.ListN.{drop}
 use Rattle.source_rules.specs.Finding.{body_at}
-use Rattle.source_rules.specs.WalkSteps.{body-step}
+use Rattle.source_rules.proofs.WalkSteps.{body-step}
 use Rattle.flat.specs.BodyLaws.{past_angle_close, past_angle_open, past-brace, past-semicolon, past_square_close, past_square_open, plain-passed}
 use Rattle.flat.specs.Body.{body_from}
 use Rattle.flat.proofs.body_bytes.Goals as goal

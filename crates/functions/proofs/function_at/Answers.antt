@@ -3,7 +3,7 @@ use Prim.Native.Nat.{◌+◌}
 use mathlib.Core.Path.{ap, ap₂, ◌∙◌}
 use native.Mathlib.Omega.{arith}
 use Rattle.gate_rules.specs.Tree.{entry_at, path_length, path_offset}
-use Rattle.gate_rules.specs.TreeLaws.{unrefused}
+use Rattle.gate_rules.proofs.TreeLaws.{unrefused}
 use Rattle.functions.proofs.Read.{inside, number_at, shown-is, tells-here}
 use Rattle.functions.proofs.function_at.Goals as goal
 

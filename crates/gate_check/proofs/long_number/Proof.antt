@@ -5,7 +5,7 @@ use native.Mathlib.Omega.{arith}
 use lib.ListN.{length}
 use borrow.Author.Tests.{le-ltb, lt-ltb}
 use Rattle.text_rules.specs.Bytes.{◌or_else◌}
-use Rattle.gate_rules.specs.BufferLaws.{refusal-most}
+use Rattle.gate_rules.proofs.BufferLaws.{refusal-most}
 use Rattle.gate_rules.specs.Tree.{tree_refusal}
 use borrow.Author.Rules.{rules}
 use Rattle.gate_check.proofs.long_number.Statement.{statement}

@@ -1,8 +1,8 @@
 -- `gate_report::early_refusal` meets its contract: its tests are those of the table, in the table's order.
 use mathlib.Core.Path.{◌∙◌, sym}
 use native.Mathlib.Omega.{arith}
-use Rattle.gate_rules.specs.FileLaws.{count-inside}
-use Rattle.gate_rules.specs.TreeLaws.{unrefused}
+use Rattle.gate_rules.proofs.FileLaws.{count-inside}
+use Rattle.gate_rules.proofs.TreeLaws.{unrefused}
 use Rattle.gate_report.specs.Reports.{early-five, early-none, early_six, early-tree}
 use Rattle.gate_report.proofs.early_refusal.Goals as goal
 

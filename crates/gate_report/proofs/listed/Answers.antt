@@ -1,9 +1,9 @@
 -- `gate_report::listed` meets its contract: the length that is told is the text's, so that 9 is found before anything is written.
 use mathlib.Core.Path.{refl}
 use native.Mathlib.Omega.{arith}
-use Rattle.gate_rules.specs.FileLaws.{count-inside}
-use Rattle.gate_rules.specs.TreeLaws.{unrefused}
-use Rattle.gate_rules.specs.TreeSizes.{tree_branches}
+use Rattle.gate_rules.proofs.FileLaws.{count-inside}
+use Rattle.gate_rules.proofs.TreeLaws.{unrefused}
+use Rattle.gate_rules.proofs.TreeSizes.{tree_branches}
 use Rattle.functions.specs.Shown.{limits_of}
 use Rattle.gate_report.specs.Listed.{listed-short, listed-whole}
 use Rattle.gate_report.specs.Text.{text-length, text-most}

@@ -1,7 +1,7 @@
 -- `gate_report::put_files` meets its contract: the line, and behind it the rows.
 use mathlib.Core.List.{[], ◌∷◌}
 use native.Mathlib.Omega.{arith}
-use Rattle.text_rules.specs.WriterLaws.{Puts, puts-all, puts_none, puts_then}
+use Rattle.text_rules.proofs.WriterLaws.{Puts, puts-all, puts_none, puts_then}
 use Rattle.gate_rules.specs.Report.{weight_rows}
 use Rattle.report_files.specs.Files.{heaviest_files}
 use Rattle.gate_report.specs.Text.{files_line, last-length}

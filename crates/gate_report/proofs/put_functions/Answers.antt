@@ -2,11 +2,11 @@
 use mathlib.Core.Path.{◌∙◌, sym}
 use mathlib.Core.List.{[], ◌∷◌}
 use native.Mathlib.Omega.{arith}
-use Rattle.text_rules.specs.WriterLaws.{Puts, puts-all, puts_none, puts-sized, puts_then}
+use Rattle.text_rules.proofs.WriterLaws.{Puts, puts-all, puts_none, puts-sized, puts_then}
 use Rattle.gate_rules.specs.Gate.{gate}
 use Rattle.gate_rules.specs.Report.{report_rows, reported}
 use Rattle.gate_rules.specs.Scan.{functions_of}
-use Rattle.gate_rules.specs.TreeSizes.{tree_branches}
+use Rattle.gate_rules.proofs.TreeSizes.{tree_branches}
 use Rattle.functions.specs.Shown.{limits_of}
 use Rattle.report_functions.specs.Counting.{rows-count}
 use Rattle.report_rows.specs.Texts.{head, head-length}

@@ -4,7 +4,7 @@ use mathlib.Core.List.{[], ◌∷◌}
 use native.Mathlib.Omega.{arith}
 use lib.ListN.{length}
 use Rattle.text_rules.specs.Bytes.{put_at}
-use Rattle.text_rules.specs.WriterLaws.{Puts, puts-all, puts_none, puts-sized}
+use Rattle.text_rules.proofs.WriterLaws.{Puts, puts-all, puts_none, puts-sized}
 use Rattle.gate_rules.specs.Gate.{gate}
 use Rattle.gate_rules.specs.ReportCall.{report_of}
 use Rattle.functions.specs.Shown.{limits_of}

@@ -5,11 +5,11 @@ use native.Mathlib.Omega.{arith}
 use mathlib.Core.List.{List, ◌++◌}
 use lib.ListN.{length, take, drop, length-take}
 use Rattle.text_rules.specs.Bytes.{put_at}
-use Rattle.text_rules.specs.PutLaws.{put-length}
+use Rattle.text_rules.proofs.PutLaws.{put-length}
 use Rattle.text_rules.specs.Search.{part}
 use Rattle.source_rules.specs.Blank.{blanked}
-use Rattle.source_rules.specs.BlankLaws.{blanked-length}
-use Rattle.gate_rules.specs.FileLaws.{FileAt, blank_end, blank_put, blank_step, count-inside, file-at}
+use Rattle.source_rules.proofs.BlankLaws.{blanked-length}
+use Rattle.gate_rules.proofs.FileLaws.{FileAt, blank_end, blank_put, blank_step, count-inside, file-at}
 use Rattle.gate_rules.specs.Records.{blank_into}
 use Rattle.gate_rules.specs.Tree.{entry_at, sources, sources_from, text_in, text_length, text_offset}
 use Rattle.gate_scan.proofs.blank_texts.Goals as goal

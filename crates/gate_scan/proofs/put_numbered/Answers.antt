@@ -2,7 +2,7 @@
 use Prim.Native.Nat.{◌*◌}
 use mathlib.Core.Path.{refl, ◌∙◌}
 use native.Mathlib.Omega.{arith}
-use Rattle.gate_rules.specs.RecordForms.{put_full, put-room}
+use Rattle.gate_rules.proofs.RecordLaws.{put_full, put-room}
 use Rattle.gate_scan.proofs.put_numbered.Goals as goal
 
 pub returns-then-number-room : goal.returns-then-number-room

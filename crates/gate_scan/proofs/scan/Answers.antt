@@ -3,7 +3,7 @@ use Prim.Native.Nat.{◌≤◌}
 use mathlib.Core.Path.{◌≡◌, refl, ap, sym, ◌∙◌}
 use native.Mathlib.Omega.{arith}
 use lib.ListN.{length}
-use Rattle.gate_rules.specs.BufferLaws.{refusal-most}
+use Rattle.gate_rules.proofs.BufferLaws.{refusal-most}
 use Rattle.gate_rules.specs.Tree.{tree_refusal}
 use Rattle.gate_scan.specs.Scans.{filled-length, many_scans, number-eight, number-five, number-tree, number_zero, refused_scans, scans_as, whole_scans}
 use Rattle.gate_scan.proofs.scan.Goals as goal

@@ -4,7 +4,8 @@ use mathlib.Core.Path.{◌≡◌, refl, ap, subst, sym, ◌∙◌}
 use mathlib.Core.List.{[]}
 use native.Mathlib.Omega.{arith}
 use lib.ListN.{length}
-use Rattle.gate_rules.specs.RecordForms.{put_record_length, put_record, put_records}
+use Rattle.gate_rules.specs.RecordForms.{put_record, put_records}
+use Rattle.gate_rules.proofs.RecordLaws.{put_record_length}
 use Rattle.gate_rules.specs.Records.{record_bytes}
 use Rattle.windows.specs.Window.{noted_nothing}
 use Rattle.chunks.specs.Table.{summed_nothing}

@@ -7,10 +7,10 @@ use native.Mathlib.Omega.{arith}
 use lib.ListN.{length, take, drop, length-take, length-drop, length-replicate}
 use Rattle.text_rules.specs.Search.{part}
 use Rattle.source_rules.specs.Blank.{blanked}
-use Rattle.source_rules.specs.BlankLaws.{blanked-length}
+use Rattle.source_rules.proofs.BlankLaws.{blanked-length}
 use Rattle.source_rules.specs.TextScan.{functions}
-use Rattle.source_rules.specs.TextScanLaws.{count_fits}
-use Rattle.gate_rules.specs.FileLaws.{count-inside, file-at, span-is}
+use Rattle.source_rules.proofs.TextScanLaws.{count_fits}
+use Rattle.gate_rules.proofs.FileLaws.{count-inside, file-at, span-is}
 use Rattle.gate_rules.specs.RecordForms.{put_records}
 use Rattle.gate_rules.specs.Records.{record_bytes, records, records_of_files}
 use Rattle.gate_rules.specs.Tree.{entry_at, file_count, sources, sources_from, text_in, text_length, text_offset}

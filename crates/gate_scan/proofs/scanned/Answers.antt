@@ -1,8 +1,8 @@
 -- `gate_scan::scanned` meets its contract: the texts are blanked first, and what is found in them is written.
 use mathlib.Core.Path.{subst, sym, ◌∙◌}
 use native.Mathlib.Omega.{arith}
-use Rattle.gate_rules.specs.TreeLaws.{unrefused}
-use Rattle.gate_rules.specs.TreeSizes.{tree-functions, tree-records}
+use Rattle.gate_rules.proofs.TreeLaws.{unrefused}
+use Rattle.gate_rules.proofs.TreeSizes.{tree-functions, tree-records}
 use Rattle.gate_scan.specs.Texts.{all-put, texts_in}
 use Rattle.gate_scan.specs.Told.{TextsIn}
 use Rattle.gate_scan.proofs.scanned.Goals as goal

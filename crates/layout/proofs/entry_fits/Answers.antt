@@ -5,7 +5,7 @@ use native.Mathlib.Omega.{arith}
 use lib.Dec.{leb}
 use lib.ListN.{length}
 use Rattle.text_rules.specs.U32.{u32_at}
-use Rattle.gate_rules.specs.ScanForms.{entry-no-path, entry-empty-path, entry-long-path, entry-no-text, entry-last}
+use Rattle.gate_rules.proofs.ScanForms.{entry-no-path, entry-empty-path, entry-long-path, entry-no-text, entry-last}
 use Rattle.layout.proofs.entry_fits.Goals as goal
 
 pub returns-then-path-running : goal.returns-then-path-running

@@ -7,7 +7,7 @@ use native.Mathlib.Omega.{arith}
 use lib.ListN.{length}
 use Rattle.text_rules.specs.U32.{u32_at}
 use Rattle.gate_rules.specs.Tree.{file_count, entries_fit, entry_fits, is_laid_out}
-use Rattle.gate_rules.specs.ScanForms.{entries-step, entries-end, layout_short, layout_many, layout_no-table, layout_rest}
+use Rattle.gate_rules.proofs.ScanForms.{entries-step, entries-end, layout_short, layout_many, layout_no-table, layout_rest}
 use Rattle.layout.proofs.laid_out.Goals as goal
 
 next : (tree : List ℕ) (n k place u v : ℕ) → k < n → entry_fits tree (4 + 16 * k) place ≡ true → u ≡ u32_at tree (4 + 16 * k + 8) → v ≡ u32_at tree (4 + 16 * k + 12)

@@ -2,7 +2,7 @@
 use Prim.Native.Nat.{◌+◌}
 use mathlib.Core.Path.{ap₂}
 use native.Mathlib.Omega.{arith}
-use Rattle.gate_rules.specs.FileLaws.{file-at}
+use Rattle.gate_rules.proofs.FileLaws.{file-at}
 use Rattle.layout.proofs.text_span.Goals as goal
 
 pub overflow_mul-entry : goal.overflow_mul-entry

@@ -5,7 +5,7 @@ use mathlib.Core.Path.{refl}
 use native.Mathlib.Omega.{arith}
 use lib.ListN.{length, length-set}
 use Rattle.text_rules.specs.Classes.{tab}
-use Rattle.text_rules.specs.ScanLaws.{bytes_before-more, bytes_before-stop}
+use Rattle.text_rules.proofs.ScanLaws.{bytes_before-more, bytes_before-stop}
 use Rattle.listed_keys.specs.Wholes.{field_end, field_turn}
 use Rattle.listed_keys.proofs.put_field.Goals as goal
 

@@ -3,7 +3,7 @@ use mathlib.Core.Path.{refl}
 use mathlib.Core.List.{[], ◌∷◌}
 use native.Mathlib.Omega.{arith}
 use Rattle.text_rules.specs.Bytes.{ascii}
-use Rattle.text_rules.specs.WriterLaws.{Puts, joined_length, puts-all, puts_none, puts-sized, puts_then}
+use Rattle.text_rules.proofs.WriterLaws.{Puts, joined_length, puts-all, puts_none, puts-sized, puts_then}
 use Rattle.gate_rules.specs.Check.{listed, spaced}
 use Rattle.listing.specs.Texts.{spaced-length}
 use Rattle.listed_keys.proofs.put_key.Goals as goal

@@ -8,7 +8,7 @@ use lib.ListN.{length, drop}
 use Rattle.text_rules.specs.Bytes.{ascii, joined, put_at}
 use Rattle.text_rules.specs.Classes.{tab}
 use Rattle.text_rules.specs.Search.{bytes_before}
-use Rattle.text_rules.specs.WriterLaws.{Puts, joined_length, puts-all, puts_none, puts-sized, puts_then}
+use Rattle.text_rules.proofs.WriterLaws.{Puts, joined_length, puts-all, puts_none, puts-sized, puts_then}
 use Rattle.listed_keys.specs.Plain.{first_field, line_end, second_tab, tab_from}
 use Rattle.listed_keys.specs.Wholes.{field_length, key-line}
 use Rattle.listed_keys.proofs.put_plain.Goals as goal

@@ -3,7 +3,7 @@ use Prim.Native.Nat.{◌<◌}
 use mathlib.Core.Path.{refl}
 use native.Mathlib.Omega.{arith}
 use lib.ListN.{length}
-use Rattle.text_rules.specs.ScanLaws.{bytes_before-more, bytes_before-stop}
+use Rattle.text_rules.proofs.ScanLaws.{bytes_before-more, bytes_before-stop}
 use Rattle.listed_keys.proofs.to_lf.Goals as goal
 
 pub loop-at-init : goal.loop-at-init

@@ -1,8 +1,8 @@
 -- `listing::digits` meets its contract: each division by 10 takes one digit off, and the last number has one.
 use Prim.Native.Nat.{◌/◌}
 use native.Mathlib.Omega.{arith}
-use Rattle.text_rules.specs.DecimalLaws.{decimal-length_u64}
-use Rattle.text_rules.specs.DecimalSteps.{length_more, length-one, length_some}
+use Rattle.text_rules.proofs.DecimalLaws.{decimal-length_u64}
+use Rattle.text_rules.proofs.DecimalSteps.{length_more, length-one, length_some}
 use Rattle.listing.proofs.digits.Goals as goal
 
 pub loop-left-init : goal.loop-left-init

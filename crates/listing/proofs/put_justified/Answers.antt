@@ -6,7 +6,7 @@ use lib.ListN.{length, replicate, length-replicate}
 use Rattle.text_rules.specs.Bytes.{put_at}
 use Rattle.text_rules.specs.Classes.{space}
 use Rattle.text_rules.specs.Decimal.{decimal}
-use Rattle.text_rules.specs.WriterLaws.{put_then}
+use Rattle.text_rules.proofs.WriterLaws.{put_then}
 use Rattle.gate_rules.specs.Report.{justified}
 use Rattle.listing.specs.Texts.{justified-length}
 use Rattle.listing.proofs.put_justified.Goals as goal

@@ -3,7 +3,7 @@ use Prim.Native.Nat.{◌/◌}
 use mathlib.Core.Path.{refl}
 use native.Mathlib.Omega.{arith}
 use lib.ListN.{length-set}
-use Rattle.text_rules.specs.DecimalSteps.{length_more, length_some}
+use Rattle.text_rules.proofs.DecimalSteps.{length_more, length_some}
 use Rattle.listing.proofs.Turns.{digit_end, digit_turn}
 use Rattle.listing.proofs.put_number.Goals as goal
 

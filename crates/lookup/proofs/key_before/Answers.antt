@@ -6,7 +6,7 @@ use native.Mathlib.Omega.{arith}
 use lib.ListN.{length}
 use lib.Seq.{length-take-le}
 use Rattle.text_rules.specs.Bytes.{before}
-use Rattle.text_rules.specs.ScanLaws.{rest_part}
+use Rattle.text_rules.proofs.ScanLaws.{rest_part}
 use Rattle.lookup.proofs.KeyOrder.{before-short, front-before, front-other, name-before, tab-above, tab-below}
 use Rattle.lookup.proofs.key_before.Goals as goal
 

@@ -4,8 +4,8 @@ use mathlib.Core.List.{[], ◌∷◌}
 use native.Mathlib.Omega.{arith}
 use Rattle.text_rules.specs.Bytes.{ascii}
 use Rattle.text_rules.specs.Decimal.{decimal}
-use Rattle.text_rules.specs.DecimalSteps.{length-one}
-use Rattle.text_rules.specs.WriterLaws.{Puts, puts-all, puts_none, puts_then}
+use Rattle.text_rules.proofs.DecimalSteps.{length-one}
+use Rattle.text_rules.proofs.WriterLaws.{Puts, puts-all, puts_none, puts_then}
 use Rattle.mean.specs.Texts.{tenths_length_lem}
 use Rattle.mean.proofs.put_tenths.Goals as goal
 

@@ -4,7 +4,7 @@ use mathlib.Core.Path.{◌∙◌, ap, refl, sym}
 use native.Mathlib.Omega.{arith}
 use lib.ListN.{drop}
 use Rattle.source_rules.specs.Measures.{cyclomatic_from, cyclomatic_of}
-use Rattle.source_rules.specs.WalkSteps.{cyclomatic-end}
+use Rattle.source_rules.proofs.WalkSteps.{cyclomatic-end}
 use Rattle.measures.proofs.BodyLaws.{cyclomatic-more, cyclomatic-same, piece-room}
 use Rattle.measures.proofs.cyclomatic.Goals as goal
 

@@ -1,7 +1,7 @@
 -- Texts of different lengths are not the same; of one length, the rests are the same exactly if the wholes are.
 use mathlib.Core.Path.{◌∙◌, refl, sym}
 use native.Mathlib.Omega.{arith}
-use Rattle.text_rules.specs.TextSteps.{same_end, same_length, same_more, same_stop}
+use Rattle.text_rules.proofs.TextSteps.{same_end, same_length, same_more, same_stop}
 use Rattle.measures.proofs.same.Goals as goal
 
 pub returns-then-s-t : goal.returns-then-s-t

@@ -5,7 +5,7 @@ use mathlib.Core.Path.{◌∙◌, ◌≡◌, ap, refl, sym}
 use native.Mathlib.Omega.{arith}
 use lib.ListN.{drop}
 use Rattle.source_rules.specs.Measures.{deepest, lines_of, nesting_of}
-use Rattle.source_rules.specs.WalkSteps.{deepest-end, line-end}
+use Rattle.source_rules.proofs.WalkSteps.{deepest-end, line-end}
 use Rattle.measures.proofs.BodyLaws.{deepest_close, deepest_open, deepest-other, line-lf, line_other}
 use Rattle.measures.proofs.shape_of.Goals as goal
 

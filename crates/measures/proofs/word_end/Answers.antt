@@ -4,7 +4,7 @@ use native.Mathlib.Omega.{arith}
 use borrow.Author.Tests.{le-leb, lt-leb}
 use lib.Dec.{leb}
 use Rattle.text_rules.specs.Classes.{is_word}
-use Rattle.text_rules.specs.ScanLaws.{run_end, run_more, run-stop}
+use Rattle.text_rules.proofs.ScanLaws.{run_end, run_more, run-stop}
 use Rattle.measures.proofs.word_end.Goals as goal
 
 pub loop-at-init : goal.loop-at-init

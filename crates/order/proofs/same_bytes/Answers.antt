@@ -2,7 +2,7 @@
 use Prim.Native.Nat.{◌-◌}
 use mathlib.Core.Path.{sym}
 use native.Mathlib.Omega.{arith}
-use Rattle.text_rules.specs.TextSteps.{same_length}
+use Rattle.text_rules.proofs.TextSteps.{same_length}
 use Rattle.order.proofs.Ends.{ends-all, ends_more, ends-other, ends-start}
 use Rattle.order.proofs.same_bytes.Goals as goal
 

@@ -1,7 +1,7 @@
 -- A list that is all white space has no parameters; any other is the part that the definition trims it to.
 use mathlib.Core.Path.{◌∙◌, ◌≡◌, sym}
 use native.Mathlib.Omega.{arith}
-use Rattle.source_rules.specs.MeasuresLaws.{params-most}
+use Rattle.source_rules.proofs.MeasuresLaws.{params-most}
 use Rattle.source_rules.specs.Parameters.{params_of}
 use Rattle.params.proofs.List.{params_none, params-part}
 use Rattle.params.proofs.count_params.Goals as goal

@@ -6,7 +6,7 @@ use lib.ListN.{drop, get_or}
 use Rattle.text_rules.specs.Search.{starts_with}
 use Rattle.params.specs.Head.{head}
 use Rattle.params.proofs.List.{head-comma, head-end, head-keeps, head-leaves}
-use Rattle.text_rules.specs.TextSteps.{begins-end, begins-more, begins-none, begins-stop}
+use Rattle.text_rules.proofs.TextSteps.{begins-end, begins-more, begins-none, begins-stop}
 use Rattle.params.proofs.head_begins.Goals as goal
 
 pub loop-matched-init : goal.loop-matched-init

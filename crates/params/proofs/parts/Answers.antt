@@ -1,7 +1,7 @@
 -- Each turn is one step of the count, so the count over the rest is the count over the whole.
 use mathlib.Core.Path.{◌∙◌, refl, sym}
 use native.Mathlib.Omega.{arith}
-use Rattle.source_rules.specs.WalkSteps.{parts-end}
+use Rattle.source_rules.proofs.WalkSteps.{parts-end}
 use Rattle.params.proofs.List.{parts_close, parts-comma, parts-inner, parts_open, parts-other}
 use Rattle.params.proofs.parts.Goals as goal
 

@@ -1,7 +1,7 @@
 -- `paths::has_byte` meets its contract: what is asked of the rest is what was asked of the whole.
 use mathlib.Core.Path.{refl, sym, ◌∙◌}
 use native.Mathlib.Omega.{arith}
-use Rattle.gate_rules.specs.PathForms.{has_end, has-found, has-next}
+use Rattle.gate_rules.proofs.PathForms.{has_end, has-found, has-next}
 use Rattle.paths.proofs.has_byte.Goals as goal
 
 pub loop-i-init : goal.loop-i-init

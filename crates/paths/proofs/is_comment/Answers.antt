@@ -1,6 +1,6 @@
 -- `paths::is_comment` meets its contract: the first byte is the definition's.
 use mathlib.Core.Path.{sym}
-use Rattle.gate_rules.specs.PathForms.{comment-first, comment-none}
+use Rattle.gate_rules.proofs.PathForms.{comment-first, comment-none}
 use Rattle.paths.proofs.is_comment.Goals as goal
 
 pub returns-then-s-eq0 : goal.returns-then-s-eq0

@@ -1,6 +1,6 @@
 -- `paths::is_path` meets its contract: each test is one of the definition's, in its order.
 use mathlib.Core.Path.{sym, ◌∙◌}
-use Rattle.gate_rules.specs.PathForms.{path-comment, path-last, path-lf, path-tab}
+use Rattle.gate_rules.proofs.PathForms.{path-comment, path-last, path-lf, path-tab}
 use Rattle.paths.proofs.is_path.Goals as goal
 
 pub returns-then-has_byte : goal.returns-then-has_byte

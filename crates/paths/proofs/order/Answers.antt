@@ -1,6 +1,6 @@
 -- `paths::order` meets its contract: the test is the definition's.
 use mathlib.Core.Path.{sym}
-use Rattle.gate_rules.specs.PathForms.{rank-other, rank-slash}
+use Rattle.gate_rules.proofs.PathForms.{rank-other, rank-slash}
 use Rattle.paths.proofs.order.Goals as goal
 
 pub returns-then-b-eq47 : goal.returns-then-b-eq47

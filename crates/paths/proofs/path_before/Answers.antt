@@ -4,7 +4,7 @@ use mathlib.Core.Path.{refl, sym, ◌∙◌}
 use native.Mathlib.Omega.{arith}
 use lib.ListN.{get_or}
 use Rattle.gate_rules.specs.Tree.{rank}
-use Rattle.gate_rules.specs.PathForms.{before_longer, before_lower, before-other, before_same, before_shorter}
+use Rattle.gate_rules.proofs.PathForms.{before_longer, before_lower, before-other, before_same, before_shorter}
 use Rattle.paths.proofs.path_before.Goals as goal
 
 pub loop-i-init : goal.loop-i-init

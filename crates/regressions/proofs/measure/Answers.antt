@@ -6,7 +6,7 @@ use lib.ListN.{length}
 use Rattle.gate_rules.specs.Baseline.{entries_of_lines}
 use Rattle.gate_rules.specs.Gate.{gate}
 use Rattle.gate_rules.specs.Scan.{functions_of}
-use Rattle.gate_rules.specs.TreeLaws.{unrefused}
+use Rattle.gate_rules.proofs.TreeLaws.{unrefused}
 use Rattle.functions.specs.Shown.{limits_of, shown}
 use Rattle.regression_sizes.specs.Lines.{accepts, lies_small}
 use Rattle.regressions.proofs.Left.{bytes_step, count-step, left, left_end, left_step, none_bytes}

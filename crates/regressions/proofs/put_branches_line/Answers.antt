@@ -3,7 +3,7 @@ use mathlib.Core.Path.{ap, ◌∙◌}
 use lib.ListN.{length}
 use native.Mathlib.Omega.{arith}
 use Rattle.text_rules.specs.Bytes.{ascii, put_at}
-use Rattle.text_rules.specs.WriterLaws.{Puts, puts-all, puts_none, puts-sized, puts_then}
+use Rattle.text_rules.proofs.WriterLaws.{Puts, puts-all, puts_none, puts-sized, puts_then}
 use Rattle.functions.specs.Shown.{shown}
 use Rattle.regression_sizes.specs.Lines.{branches_length_lem, branches_parts, one_pair, pair-length, started-length}
 use Rattle.regressions.proofs.put_branches_line.Goals as goal

@@ -3,7 +3,7 @@ use mathlib.Core.Path.{ap, ◌∙◌}
 use lib.ListN.{length}
 use native.Mathlib.Omega.{arith}
 use Rattle.text_rules.specs.Bytes.{ascii, put_at}
-use Rattle.text_rules.specs.WriterLaws.{Puts, puts-all, puts_none, puts-sized, puts_then}
+use Rattle.text_rules.proofs.WriterLaws.{Puts, puts-all, puts_none, puts-sized, puts_then}
 use Rattle.functions.specs.Shown.{shown}
 use Rattle.regression_sizes.specs.Lines.{new_length_lem, new_parts, pair-length, started-length, two_pairs}
 use Rattle.regressions.proofs.put_new_line.Goals as goal

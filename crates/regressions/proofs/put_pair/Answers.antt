@@ -2,7 +2,7 @@
 use mathlib.Core.List.{[], ◌∷◌}
 use native.Mathlib.Omega.{arith}
 use Rattle.text_rules.specs.Decimal.{decimal}
-use Rattle.text_rules.specs.WriterLaws.{Puts, puts-all, puts_none, puts_then}
+use Rattle.text_rules.proofs.WriterLaws.{Puts, puts-all, puts_none, puts_then}
 use Rattle.regression_sizes.specs.Lines.{pair-length}
 use Rattle.regressions.proofs.put_pair.Goals as goal
 

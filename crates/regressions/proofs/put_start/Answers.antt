@@ -4,7 +4,7 @@ use mathlib.Core.List.{[], ◌∷◌}
 use lib.ListN.{length}
 use native.Mathlib.Omega.{arith}
 use Rattle.text_rules.specs.Bytes.{ascii, put_at}
-use Rattle.text_rules.specs.WriterLaws.{Puts, puts-all, puts_none, puts-sized, puts_then}
+use Rattle.text_rules.proofs.WriterLaws.{Puts, puts-all, puts_none, puts-sized, puts_then}
 use Rattle.functions.specs.Shown.{shown}
 use Rattle.listing.specs.Texts.{located, located-length}
 use Rattle.regression_sizes.specs.Lines.{started-is, started-length}

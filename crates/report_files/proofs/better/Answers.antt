@@ -3,7 +3,7 @@ use mathlib.Core.Path.{◌∙◌, ◌≡◌, sym}
 use native.Mathlib.Omega.{arith}
 use lib.ListN.{length}
 use Rattle.gate_rules.specs.Report.{heavier}
-use Rattle.gate_rules.specs.RowOrders.{heavier_orders}
+use Rattle.gate_rules.proofs.RowOrders.{heavier_orders}
 use Rattle.order.specs.Chosen.{chosen_better, chosen-first, chosen_unfit, chosen-worse}
 use Rattle.report_files.specs.Weights.{is_listed, listed, listed-count, no_weight}
 use Rattle.report_files.proofs.better.Goals as goal

@@ -1,7 +1,7 @@
 -- `report_files::goes_first` meets its contract: the heavier one, and where neither is, the one with the lower number.
 use mathlib.Core.Path.{◌∙◌, sym}
 use Rattle.gate_rules.specs.Report.{heavier}
-use Rattle.gate_rules.specs.RowOrders.{heavier_orders}
+use Rattle.gate_rules.proofs.RowOrders.{heavier_orders}
 use Rattle.order.specs.Chosen.{first-less, first_more, first_tied}
 use Rattle.report_files.specs.Weights.{listed, no_weight}
 use Rattle.report_files.proofs.goes_first.Goals as goal

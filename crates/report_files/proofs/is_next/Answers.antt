@@ -2,7 +2,7 @@
 use mathlib.Core.Path.{◌∙◌, sym}
 use native.Mathlib.Omega.{arith}
 use Rattle.gate_rules.specs.Report.{heavier}
-use Rattle.gate_rules.specs.RowOrders.{heavier_orders}
+use Rattle.gate_rules.proofs.RowOrders.{heavier_orders}
 use Rattle.order.specs.Chosen.{always, fit_decided, fit_fails, fit_first, never}
 use Rattle.report_files.specs.Weights.{is_listed, known-few, listed, listed-count, listed_not, listed-some, no_weight}
 use Rattle.report_files.proofs.is_next.Goals as goal

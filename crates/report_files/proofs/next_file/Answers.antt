@@ -2,7 +2,7 @@
 use mathlib.Core.Path.{◌∙◌, sym}
 use native.Mathlib.Omega.{arith}
 use Rattle.gate_rules.specs.Report.{heavier}
-use Rattle.gate_rules.specs.RowOrders.{heavier_orders}
+use Rattle.gate_rules.proofs.RowOrders.{heavier_orders}
 use Rattle.order.specs.Chosen.{chosen-all, chosen-next, chosen_none}
 use Rattle.report_files.specs.Weights.{is_listed, listed, listed-count, no_weight}
 use Rattle.report_files.proofs.next_file.Goals as goal

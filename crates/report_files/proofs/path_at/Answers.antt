@@ -1,5 +1,5 @@
 -- `report_files::path_at` meets its contract: the bounds are those of the path.
-use Rattle.gate_rules.specs.FileLaws.{span-is}
+use Rattle.gate_rules.proofs.FileLaws.{span-is}
 use Rattle.gate_rules.specs.Tree.{entry_at, path_length, path_of, path_offset}
 use Rattle.report_files.proofs.path_at.Goals as goal
 

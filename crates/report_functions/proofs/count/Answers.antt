@@ -3,7 +3,7 @@ use mathlib.Core.Path.{ap, subst}
 use native.Mathlib.Omega.{arith}
 use Rattle.gate_rules.specs.Gate.{gate}
 use Rattle.gate_rules.specs.Scan.{functions_of}
-use Rattle.gate_rules.specs.TreeSizes.{tree_branches}
+use Rattle.gate_rules.proofs.TreeSizes.{tree_branches}
 use Rattle.functions.specs.Shown.{limits_of}
 use Rattle.report_functions.specs.Counting.{Told, branches_room, counting_all, counting_next, counting_none}
 use Rattle.report_functions.proofs.count.Goals as goal

@@ -3,7 +3,7 @@ use mathlib.Core.Path.{◌∙◌, ap, sym}
 use mathlib.Core.List.{[], ◌∷◌}
 use native.Mathlib.Omega.{arith}
 use Rattle.text_rules.specs.Bytes.{ascii, put_at}
-use Rattle.text_rules.specs.WriterLaws.{Puts, puts-all, puts_none, puts-sized, puts_then}
+use Rattle.text_rules.proofs.WriterLaws.{Puts, puts-all, puts_none, puts-sized, puts_then}
 use Rattle.listing.specs.Texts.{located, located-length}
 use Rattle.report_rows.specs.Texts.{measured, measured-length, row_is, row-length}
 use Rattle.report_rows.proofs.put_report_row.Goals as goal

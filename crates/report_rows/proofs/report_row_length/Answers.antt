@@ -1,6 +1,6 @@
 -- `report_rows::report_row_length` meets its contract: the line has at most 10 digits, so nothing wraps.
 use native.Mathlib.Omega.{arith}
-use Rattle.text_rules.specs.DecimalLaws.{decimal-length}
+use Rattle.text_rules.proofs.DecimalLaws.{decimal-length}
 use Rattle.report_rows.proofs.report_row_length.Goals as goal
 
 pub overflow_add-result : goal.overflow_add-result

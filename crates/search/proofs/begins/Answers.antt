@@ -1,7 +1,7 @@
 -- `search::begins` meets its contract: at each turn the rest of the word against the rest of the text decides what the whole word does.
 use mathlib.Core.Path.{refl, sym, ◌∙◌}
 use native.Mathlib.Omega.{arith}
-use Rattle.text_rules.specs.StartsLaws.{starts_more, starts_other, starts-short, starts-whole}
+use Rattle.text_rules.proofs.StartsLaws.{starts_more, starts_other, starts-short, starts-whole}
 use Rattle.search.proofs.begins.Goals as goal
 
 pub loop-i-init : goal.loop-i-init

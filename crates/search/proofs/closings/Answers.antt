@@ -5,7 +5,7 @@ use mathlib.Core.Path.{◌≡◌, ap, ◌∙◌}
 use native.Mathlib.Omega.{arith}
 use lib.ListN.{drop}
 use Rattle.source_rules.specs.Brackets.{partner}
-use Rattle.source_rules.specs.WalkSteps.{partner_close, partner-end, partner_open, partner-other}
+use Rattle.source_rules.proofs.WalkSteps.{partner_close, partner-end, partner_open, partner-other}
 use Rattle.search.proofs.closings.Goals as goal
 
 pub loop-at-init : goal.loop-at-init

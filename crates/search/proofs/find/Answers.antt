@@ -2,7 +2,7 @@
 use mathlib.Core.Path.{refl, sym, ◌∙◌}
 use native.Mathlib.Omega.{arith}
 use borrow.Author.Tests.{eq-eqb, ne_eqb}
-use Rattle.source_rules.specs.WalkSteps.{find-end, find-step}
+use Rattle.source_rules.proofs.WalkSteps.{find-end, find-step}
 use Rattle.search.proofs.find.Goals as goal
 
 pub loop-at-init : goal.loop-at-init

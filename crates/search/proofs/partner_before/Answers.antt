@@ -6,7 +6,7 @@ use mathlib.Core.Option.{some}
 use native.Mathlib.Omega.{arith}
 use lib.ListN.{drop}
 use Rattle.source_rules.specs.Brackets.{partner}
-use Rattle.source_rules.specs.WalkSteps.{partner_close, partner-found, partner_open, partner-other}
+use Rattle.source_rules.proofs.WalkSteps.{partner_close, partner-found, partner_open, partner-other}
 use Rattle.search.proofs.partner_before.Goals as goal
 
 pub loop-at-init : goal.loop-at-init

@@ -2,7 +2,7 @@
 use mathlib.Core.Path.{sym, subst, ◌∙◌}
 use native.Mathlib.Omega.{arith}
 use lib.ListN.{length}
-use Rattle.source_rules.specs.WalkSteps.{partner-end}
+use Rattle.source_rules.proofs.WalkSteps.{partner-end}
 use Rattle.search.specs.Place.{Meets}
 use Rattle.search.proofs.partner_behind.Goals as goal
 

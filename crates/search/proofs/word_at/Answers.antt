@@ -10,9 +10,9 @@ use lib.Seq.{get_or-drop}
 use Rattle.text_rules.specs.Bytes.{ascii}
 use Rattle.text_rules.specs.Classes.{is_word}
 use Rattle.text_rules.specs.Search.{starts_with}
-use Rattle.text_rules.specs.StartsLaws.{starts-length}
+use Rattle.text_rules.proofs.StartsLaws.{starts-length}
 use Rattle.source_rules.specs.Finding.{is_fn}
-use Rattle.source_rules.specs.TextScanSteps.{no_fn}
+use Rattle.source_rules.proofs.TextScanSteps.{no_fn}
 use Rattle.search.proofs.word_at.Goals as goal
 
 behind : (prev : ℕ) (s : List ℕ) → starts_with (ascii "fn") s ≡ true → is_word prev ≡ false → is_fn prev s ≡ not (is_word (get_or s 2 0))

@@ -2,7 +2,7 @@
 use mathlib.Core.Path.{sym, ◌∙◌}
 use native.Mathlib.Omega.{arith}
 use Rattle.text_rules.specs.Classes.{is_word}
-use Rattle.text_rules.specs.ScanLaws.{run_end, run_more, run-stop}
+use Rattle.text_rules.proofs.ScanLaws.{run_end, run_more, run-stop}
 use Rattle.search.proofs.word_end.Goals as goal
 
 pub loop-at-init : goal.loop-at-init

@@ -2,7 +2,7 @@
 use mathlib.Core.Path.{◌∙◌, refl, subst}
 use native.Mathlib.Omega.{arith}
 use lib.ListN.{length}
-use Rattle.source_rules.specs.WalkSteps.{body_end}
+use Rattle.source_rules.proofs.WalkSteps.{body_end}
 use Rattle.flat.specs.Body.{Reaches}
 use Rattle.signatures.proofs.far_body.Goals as goal
 

@@ -3,7 +3,7 @@
 use mathlib.Core.Path.{◌∙◌, refl, subst, sym}
 use native.Mathlib.Omega.{arith}
 use Rattle.text_rules.specs.Classes.{round_close, round_open}
-use Rattle.source_rules.specs.WalkSteps.{partner-end}
+use Rattle.source_rules.proofs.WalkSteps.{partner-end}
 use Rattle.search.specs.Place.{Meets}
 use Rattle.chunks.specs.Passing.{TellsDepth}
 use Rattle.signatures.specs.Signatures.{sought-past}

@@ -3,7 +3,7 @@ use mathlib.Core.Path.{◌∙◌, ◌≡◌, ap, sym}
 use mathlib.Core.Option.{some}
 use native.Mathlib.Omega.{arith}
 use Rattle.text_rules.specs.Classes.{round_close, round_open}
-use Rattle.source_rules.specs.PlaceLaws.{partner-place}
+use Rattle.source_rules.proofs.PlaceLaws.{partner-place}
 use Rattle.search.specs.Place.{place_of}
 use Rattle.parts.specs.Told.{no_end, sought_from}
 use Rattle.signatures.specs.Signatures.{follows_begins}

@@ -3,7 +3,7 @@ use mathlib.Core.Path.{◌∙◌, subst}
 use Prim.Native.Nat.{◌+◌}
 use native.Mathlib.Omega.{arith}
 use Rattle.text_rules.specs.Classes.{round_close, round_open}
-use Rattle.source_rules.specs.PlaceLaws.{partner-place}
+use Rattle.source_rules.proofs.PlaceLaws.{partner-place}
 use Rattle.flat.specs.Body.{Reaches}
 use Rattle.parts.specs.Told.{no-brace}
 use Rattle.signatures.specs.Signatures.{nothing-begins}

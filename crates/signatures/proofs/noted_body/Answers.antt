@@ -4,7 +4,7 @@ use Prim.Native.Nat.{◌-◌}
 use mathlib.Core.Path.{◌∙◌, ap, sym}
 use mathlib.Core.Option.{some}
 use native.Mathlib.Omega.{arith}
-use Rattle.source_rules.specs.WalkSteps.{body_end}
+use Rattle.source_rules.proofs.WalkSteps.{body_end}
 use Rattle.parts.specs.Told.{found-told, no-brace}
 use Rattle.signatures.specs.Signatures.{follows_begins, told-body}
 use Rattle.signatures.proofs.noted_body.Goals as goal

@@ -5,8 +5,8 @@ use mathlib.Core.Path.{◌∙◌, ◌≡◌, ap, subst, sym}
 use mathlib.Core.Option.{some}
 use native.Mathlib.Omega.{arith}
 use Rattle.text_rules.specs.Classes.{round_close, round_open}
-use Rattle.source_rules.specs.PlaceLaws.{partner-place}
-use Rattle.source_rules.specs.WalkSteps.{partner-end}
+use Rattle.source_rules.proofs.PlaceLaws.{partner-place}
+use Rattle.source_rules.proofs.WalkSteps.{partner-end}
 use Rattle.parts.specs.Told.{body_behind, found-told, no_end}
 use Rattle.signatures.specs.Signatures.{follows_begins}
 use Rattle.signatures.proofs.noted_list.Goals as goal

@@ -6,7 +6,7 @@ use native.Mathlib.Omega.{arith}
 use lib.ListN.{length, take, drop, get_or, length-drop}
 use lib.Seq.{get_or-drop, take_all}
 use Rattle.text_rules.specs.Classes.{brace_close, brace_open}
-use Rattle.source_rules.specs.PlaceLaws.{partner-place}
+use Rattle.source_rules.proofs.PlaceLaws.{partner-place}
 use Rattle.measures.specs.WalkLaws.{part-closed, part-measured}
 use Rattle.measures.specs.Walks.{WalkedFrom}
 use Rattle.source.proofs.block_at.Goals as goal

@@ -6,7 +6,7 @@ use native.Mathlib.Omega.{arith}
 use lib.ListN.{drop}
 use Rattle.text_rules.specs.Classes.{brace_close, brace_open}
 use Rattle.source_rules.specs.Brackets.{partner}
-use Rattle.source_rules.specs.PlaceLaws.{partner-place}
+use Rattle.source_rules.proofs.PlaceLaws.{partner-place}
 use Rattle.search.specs.Place.{place_of}
 use Rattle.source.proofs.block_found.Goals as goal
 

@@ -11,8 +11,8 @@ use lib.Seq.{get_or-drop}
 use Rattle.text_rules.specs.Classes.{brace_close, brace_open, round_close, round_open}
 use Rattle.text_rules.specs.Search.{find}
 use Rattle.source_rules.specs.Finding.{body_at, function_from}
-use Rattle.source_rules.specs.FindingLaws.{body-brace}
-use Rattle.source_rules.specs.PlaceLaws.{body-place, find-place, no_body, no_list, open_body, open_list, partner-place, whole}
+use Rattle.source_rules.proofs.FindingLaws.{body-brace}
+use Rattle.source_rules.proofs.PlaceLaws.{body-place, find-place, no_body, no_list, open_body, open_list, partner-place, whole}
 use Rattle.search.specs.Place.{place_of}
 use Rattle.parts.specs.Told.{NoBody, no-brace, no_end}
 use Rattle.signatures.specs.Signatures.{Begins}

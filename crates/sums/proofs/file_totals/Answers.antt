@@ -1,7 +1,7 @@
 -- `sums::file_totals` meets its contract: after k records each place holds its file's sum over them.
 use Prim.Native.Nat.{◌+◌}
 use native.Mathlib.Omega.{arith}
-use Rattle.gate_rules.specs.TreeSizes.{tree-records}
+use Rattle.gate_rules.proofs.TreeSizes.{tree-records}
 use Rattle.sums.proofs.Adding.{added-all, added_next, added_none, part-most, sum-here, sum-most}
 use Rattle.sums.proofs.file_totals.Goals as goal
 

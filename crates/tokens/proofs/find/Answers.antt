@@ -3,7 +3,7 @@ use Prim.Native.Nat.{ℕ}
 use native.Mathlib.Omega.{arith}
 use mathlib.Core.Bool.{not}
 use lib.Dec.{eqb}
-use Rattle.text_rules.specs.ScanLaws.{bytes_before-more, bytes_before-stop, run_end}
+use Rattle.text_rules.proofs.ScanLaws.{bytes_before-more, bytes_before-stop, run_end}
 use Rattle.tokens.proofs.find.Goals as goal
 
 pub loop-i-init : goal.loop-i-init

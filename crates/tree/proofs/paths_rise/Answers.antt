@@ -5,7 +5,7 @@ use mathlib.Core.Path.{◌≡◌, sym, ap, ◌∙◌}
 use mathlib.Core.Bool.{Bool, true, false, ◌&&◌}
 use mathlib.Core.List.{List, []}
 use native.Mathlib.Omega.{arith}
-use Rattle.gate_rules.specs.FileLaws.{count-inside, paths-end, paths-step, span-is}
+use Rattle.gate_rules.proofs.FileLaws.{count-inside, paths-end, paths-step, span-is}
 use Rattle.gate_rules.specs.Tree.{entry_at, file_count, is_path, path_at, path_before, paths_rise, sources, sources_from}
 use Rattle.tree.proofs.paths_rise.Invariants.{rest}
 use Rattle.tree.proofs.paths_rise.Goals as goal

@@ -6,7 +6,7 @@ use mathlib.Core.Bool.{Bool, true, false}
 use mathlib.Core.List.{List}
 use native.Mathlib.Omega.{arith}
 use Rattle.text_rules.specs.Utf8.{is_utf8}
-use Rattle.gate_rules.specs.FileLaws.{count-inside, span-is, texts-end, texts-step}
+use Rattle.gate_rules.proofs.FileLaws.{count-inside, span-is, texts-end, texts-step}
 use Rattle.gate_rules.specs.Tree.{entry_at, file_count, sources, sources_from, text_in, texts_good}
 use Rattle.tree.proofs.texts_good.Invariants.{rest}
 use Rattle.tree.proofs.texts_good.Goals as goal

@@ -2,7 +2,7 @@
 use native.Mathlib.Omega.{arith}
 use mathlib.Core.Path.{ap, ◌∙◌}
 use lib.ListN.{length}
-use Rattle.text_rules.specs.PutLaws.{put-length}
+use Rattle.text_rules.proofs.PutLaws.{put-length}
 use Rattle.gate_rules.specs.Gate.{gate}
 use Rattle.gate_rules.specs.Scan.{functions_of}
 use Rattle.gate_rules.specs.Update.{header}

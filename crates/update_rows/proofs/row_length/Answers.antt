@@ -1,5 +1,5 @@
 -- `update_rows::row_length` meets its contract: path and name have the lengths that their bounds give.
-use Rattle.text_rules.specs.SearchLaws.{part_length}
+use Rattle.text_rules.proofs.SearchLaws.{part_length}
 use native.Mathlib.Omega.{arith}
 use Rattle.update_rows.proofs.row_length.Goals as goal
 

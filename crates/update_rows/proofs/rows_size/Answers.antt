@@ -6,7 +6,7 @@ use lib.ListN.{get_or}
 use Rattle.gate_rules.specs.Functions.{over}
 use Rattle.gate_rules.specs.Gate.{gate}
 use Rattle.gate_rules.specs.Scan.{functions_of}
-use Rattle.gate_rules.specs.TreeSizes.{tree-functions}
+use Rattle.gate_rules.proofs.TreeSizes.{tree-functions}
 use Rattle.functions.specs.Shown.{limits_of, no_fun}
 use Rattle.update_rows.specs.Rows.{lined_length, narrow}
 use Rattle.update_rows.proofs.Sizes.{all_bytes_lem, all-count, bytes_over, bytes_under, count-over, count_under, none_left, rows_few, rows_short}

@@ -10,8 +10,8 @@ use Rattle.text_rules.specs.Bytes.{ascii}
 use Rattle.text_rules.specs.Classes.{brace_close, brace_open}
 use Rattle.text_rules.specs.Search.{find, starts_with}
 use Rattle.source_rules.specs.Brackets.{partner}
-use Rattle.source_rules.specs.PlaceLaws.{block, block_from, find-place, no-brace, open_block}
-use Rattle.source_rules.specs.TextScanSteps.{no-hash, no-mark, no_span, span_to}
+use Rattle.source_rules.proofs.PlaceLaws.{block, block_from, find-place, no-brace, open_block}
+use Rattle.source_rules.proofs.TextScanSteps.{no-hash, no-mark, no_span, span_to}
 use Rattle.search.specs.Place.{place_of}
 use Rattle.source.specs.Cursors.{Spanless}
 use Rattle.source.specs.Steps.{span_new, span_none, span_open}

@@ -6,8 +6,8 @@ use mathlib.Core.Bool.{true}
 use native.Mathlib.Omega.{arith}
 use lib.ListN.{drop}
 use Rattle.source_rules.specs.Finding.{is_fn}
-use Rattle.source_rules.specs.TextScanSteps.{byte_before, fn_inside, other_byte}
-use Rattle.source_rules.specs.WalkSteps.{sought_in_span, sought-no_word, sought-skipped, sought_word}
+use Rattle.source_rules.proofs.TextScanSteps.{byte_before, fn_inside, other_byte}
+use Rattle.source_rules.proofs.WalkSteps.{sought_in_span, sought-no_word, sought-skipped, sought_word}
 use Rattle.source.specs.Cursors.{Measures}
 use Rattle.source.specs.Steps.{finds, passes}
 use Rattle.source.proofs.Cursor.turn_at.Goals as goal

@@ -2,7 +2,7 @@
 use Prim.Native.Nat.{◌+◌}
 use mathlib.Core.Path.{◌∙◌, sym}
 use native.Mathlib.Omega.{arith}
-use Rattle.text_rules.specs.SearchLaws.{in_text}
+use Rattle.text_rules.proofs.SearchLaws.{in_text}
 use Rattle.tokens.proofs.Rules.{char_escape, char_none, char-plain}
 use Rattle.tokens.proofs.Cursor.char_literal.Goals as goal
 

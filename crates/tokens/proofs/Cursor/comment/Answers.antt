@@ -2,7 +2,7 @@
 use mathlib.Core.Path.{◌∙◌, sym}
 use Prim.Native.Nat.{◌+◌}
 use native.Mathlib.Omega.{arith}
-use Rattle.text_rules.specs.SearchLaws.{in_text}
+use Rattle.text_rules.proofs.SearchLaws.{in_text}
 use Rattle.tokens.proofs.Rules.{comment-block, comment-none, comment-rest}
 use Rattle.tokens.proofs.Cursor.comment.Goals as goal
 

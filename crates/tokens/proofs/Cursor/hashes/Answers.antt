@@ -2,7 +2,7 @@
 use Prim.Native.Nat.{ℕ}
 use native.Mathlib.Omega.{arith}
 use lib.Dec.{eqb}
-use Rattle.text_rules.specs.ScanLaws.{run_end}
+use Rattle.text_rules.proofs.ScanLaws.{run_end}
 use Rattle.tokens.proofs.Bodies.{hashes-more, hashes-stop}
 use Rattle.tokens.proofs.Cursor.hashes.Goals as goal
 

@@ -4,7 +4,7 @@ use native.Mathlib.Omega.{arith}
 use mathlib.Core.Bool.{not}
 use lib.Dec.{eqb}
 use Rattle.text_rules.specs.Classes.{lf}
-use Rattle.text_rules.specs.ScanLaws.{bytes_before-more, bytes_before-stop, run_end}
+use Rattle.text_rules.proofs.ScanLaws.{bytes_before-more, bytes_before-stop, run_end}
 use Rattle.tokens.proofs.Cursor.line_body.Goals as goal
 
 pub past-at-requires : goal.past-at-requires

@@ -7,7 +7,7 @@ use borrow.Author.Tests.{eqb-true}
 use lib.Dec.{eqb}
 use lib.ListN.{get_or}
 use Rattle.text_rules.specs.BytesLaws.{and_right}
-use Rattle.text_rules.specs.SearchLaws.{in_text}
+use Rattle.text_rules.proofs.SearchLaws.{in_text}
 use Rattle.tokens.proofs.Rules.{letters_none, letters_one, letters_two}
 use Rattle.tokens.proofs.Cursor.raw_letters.Goals as goal
 

@@ -6,7 +6,7 @@ use Prim.Native.Nat.{ℕ}
 use native.Mathlib.Omega.{arith}
 use lib.ListN.{drop, get_or}
 use Rattle.text_rules.specs.Classes.{is_word}
-use Rattle.text_rules.specs.SearchLaws.{in_text}
+use Rattle.text_rules.proofs.SearchLaws.{in_text}
 use Rattle.tokens.proofs.Rules.{raw_after_word, raw_fits, raw_no_letters, raw_no-quote}
 use Rattle.tokens.proofs.Cursor.raw_string.Goals as goal
 

@@ -1,0 +1,13 @@
+pub mod TextComputes
+pub mod TextCorners
+pub mod BlankLaws
+pub mod BlankUtf8
+pub mod BracketsLaws
+pub mod FindingLaws
+pub mod MeasuresLaws
+pub mod PieceLaws
+pub mod CountLaws
+pub mod TextScanLaws
+pub mod WalkSteps
+pub mod PlaceLaws
+pub mod TextScanSteps
