@@ -19,6 +19,7 @@ fn number(tree: &[u8], at: usize) -> usize
 }
 
 // An entry whose path begins at the running place fits: no number of it leaves the tree or a limit.
+#[tactic(auto, unfolding(gate_rules::specs::Tree::entry_fits))]
 fn entry_fits(tree: &[u8], entry: usize, running: usize) -> bool
     requires { (entry + 16 ≤ length tree.now) × (running < 8589934592) }
     ensures { result ≡ entry_fits tree.now entry running }
