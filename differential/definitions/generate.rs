@@ -75,7 +75,7 @@ fn functions_term(found: &[Found]) -> String {
     for (f, name_at) in found {
         let _ = write!(
             all,
-            "record {{ nameAt = {name_at}; name = {}; line = {}; lines = {}; cyclomatic = {}; nesting = {}; params = {} }} ∷ ",
+            "record {{ name_at = {name_at}; name = {}; line = {}; lines = {}; cyclomatic = {}; nesting = {}; params = {} }} ∷ ",
             term(f.name.as_bytes()),
             f.line,
             f.lines,
@@ -146,7 +146,7 @@ fn write_tree(modules: &mut Modules, r: &mut Random, name: &str, tree: &Tree, ba
 
     modules.abbreviation(name, &tree.bytes);
     modules.abbreviation(&base, baseline);
-    modules.theorem(&format!("{name}-refusal"), &format!("treeRefusal {name}"), &tree.refusal.to_string());
+    modules.theorem(&format!("{name}-refusal"), &format!("tree_refusal {name}"), &tree.refusal.to_string());
     *tally.entry(("refusal", tree.refusal)).or_default() += 1;
 
     let lent = fresh(r, 0);
@@ -155,7 +155,7 @@ fn write_tree(modules: &mut Modules, r: &mut Random, name: &str, tree: &Tree, ba
     *tally.entry(("scan", number)).or_default() += 1;
     modules.theorem(
         &format!("{name}-scan"),
-        &format!("scanCall gate {name} {} {}", term(&lent.work), term(&lent.records)),
+        &format!("scan_call gate {name} {} {}", term(&lent.work), term(&lent.records)),
         &format!(
             "record {{ answer = record {{ number = {number}; written = 0; functions = {} }}; work = {}; records = {} }}",
             on_success(number, count),
@@ -172,7 +172,7 @@ fn write_tree(modules: &mut Modules, r: &mut Random, name: &str, tree: &Tree, ba
     *tally.entry(("check", number)).or_default() += 1;
     modules.theorem(
         &format!("{name}-check"),
-        &format!("checkCall gate gateLimits {name} {base} {} {} {}", term(&lent.work), term(&lent.records), term(&lent.output)),
+        &format!("check_call gate gate_limits {name} {base} {} {} {}", term(&lent.work), term(&lent.records), term(&lent.output)),
         &format!(
             "record {{ answer = record {{ number = {number}; written = {}; functions = {}; regressed = {}; stale = {} }}; work = {}; records = {}; output = {} }}",
             on_success(number, listing.len()),
@@ -193,7 +193,7 @@ fn write_tree(modules: &mut Modules, r: &mut Random, name: &str, tree: &Tree, ba
     *tally.entry(("update", number)).or_default() += 1;
     modules.theorem(
         &format!("{name}-update"),
-        &format!("updateCall gate gateLimits {name} {} {} {}", term(&lent.work), term(&lent.records), term(&lent.output)),
+        &format!("update_call gate gate_limits {name} {} {} {}", term(&lent.work), term(&lent.records), term(&lent.output)),
         &format!(
             "record {{ answer = record {{ number = {number}; written = {}; functions = {}; recorded = {} }}; work = {}; records = {}; output = {} }}",
             on_success(number, listing.len()),
@@ -218,7 +218,7 @@ fn write_tree(modules: &mut Modules, r: &mut Random, name: &str, tree: &Tree, ba
     modules.theorem(
         &format!("{name}-report"),
         &format!(
-            "reportCall gate gateLimits {name} {} {} {} {}",
+            "report_call gate gate_limits {name} {} {} {} {}",
             term(&lent.work),
             term(&lent.records),
             sums_term(&sums),
@@ -249,12 +249,12 @@ fn write_tree(modules: &mut Modules, r: &mut Random, name: &str, tree: &Tree, ba
 const BYTES: &str = "\
 use Prim.Native.Nat.{ℕ}
 use Prim.Native.Char.{code}
-use Prim.Native.String.{String, [] as end, _∷_ as _then_}
-use mathlib.Core.List.{List, [], _∷_, _++_}
+use Prim.Native.String.{String, [] as end, ◌∷◌ as ◌then◌}
+use mathlib.Core.List.{List, [], ◌∷◌, ◌++◌}
 
 abbrev pub ascii : String → List ℕ
 ascii end = []
-ascii (_then_ c s) = code c ∷ ascii s
+ascii (◌then◌ c s) = code c ∷ ascii s
 
 abbrev pub joined : List (List ℕ) → List ℕ
 joined [] = []
@@ -263,10 +263,10 @@ joined (s ∷ ss) = s ++ joined ss
 
 const HEAD: &str = "\
 use Prim.Native.Nat.{ℕ}
-use mathlib.Core.Path.{_≡_, refl}
-use mathlib.Core.List.{List, [], _∷_}
+use mathlib.Core.Path.{◌≡◌, refl}
+use mathlib.Core.List.{List, [], ◌∷◌}
 use lib.ListN.{replicate}
-use Rattle·compared·specs.specs.Pieces.{ascii, joined}
+use Rattle.compared.specs.Pieces.{ascii, joined}
 ";
 
 fn main() {
