@@ -52,6 +52,7 @@ fn goes_first(tree: &[u8], of: &[u32], j: usize, k: usize) -> bool
 }
 
 // The file k has a function and is behind the last one listed. At first none is: then `last` is the number of files, `n`. A file with a function has a sum.
+#[tactic(auto, using(crate::proofs::Unlisted::unlisted))]
 fn is_next(tree: &[u8], of: &[u32], n: usize, last: usize, k: usize) -> bool
     requires { Known tree.now of.now × (n ≡ file_count tree.now) × (last ≤ n) × (k < n) }
     ensures { Decides (FileFit tree.now last (file_at tree.now k)) result }

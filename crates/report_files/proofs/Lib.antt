@@ -1,0 +1,2 @@
+-- The law that the search cites.
+mod Unlisted
