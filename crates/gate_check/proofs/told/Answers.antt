@@ -30,54 +30,39 @@ measure-worse-requires c =
       c.requires.0.stand,
       c.requires.0.count,
       c.measure-gone.ensures.0,
-      λ e. elim c.if-not-ordered.branch [ then-not-ordered w ↦ subst (Filled a.lines.now (functions_of gate a.tree.now)) (sym w.3) w.2.ensures | else-not-ordered w ↦ absurd (true_false _ (not-false _ w.if-not-ordered.false) e) ],
+      λ e. elim c.if-not-ordered.branch [ then-not-ordered w ↦ subst (Filled a.lines.now (functions_of gate a.tree.now)) (sym w.places-is) w.fill.ensures | else-not-ordered w ↦ absurd (true_false _ w.if-not-ordered.false e) ],
     )
 
 pub returns-then-output-bytes : goal.returns-then-output-bytes
 returns-then-output-bytes c =
-    let length-of = c in
-    let worse = length-of.before in
-    let joined = worse.before.before in
-    let gone = joined.before in
-    let s = gone.before.before.before.before.before in
-    let a = s.args in
+    let a = c.args in
     let L = limits_of a.limits in
     let es = entries_of_lines a.lines.now in
     let fs = functions_of gate a.tree.now in
-    let bytes = measured-length L es fs _ _ _ _ gone.measure.ensures.1.0 gone.measure.ensures.1.1 worse.measure2.ensures.0 worse.measure2.ensures.1 in
-    tells-short c.refusal.result L es fs a.output.now (omega (arith, c.if-output-bytes.true, length-of.stale-length.ensures.0, c.verdict_length.ensures.0, bytes)) c.refusal.ensures
+    let bytes = measured-length L es fs _ _ _ _ c.measure-gone.ensures.1.0 c.measure-gone.ensures.1.1 c.measure-worse.ensures.0 c.measure-worse.ensures.1 in
+    tells-short c.refusal.result L es fs a.output.now (omega (arith, c.if-output-bytes.true, c.stale_length.ensures.0, c.verdict_length.ensures.0, bytes)) c.refusal.ensures
 
 pub put_stale-next-requires : goal.put_stale-next-requires
 put_stale-next-requires c =
-    let length-of = c in
-    let worse = length-of.before in
-    let joined = worse.before.before in
-    let gone = joined.before in
-    let s = gone.before.before.before.before.before in
-    let a = s.args in
+    let a = c.args in
     let L = limits_of a.limits in
     let es = entries_of_lines a.lines.now in
     let fs = functions_of gate a.tree.now in
-    let bytes = measured-length L es fs _ _ _ _ gone.measure.ensures.1.0 gone.measure.ensures.1.1 worse.measure2.ensures.0 worse.measure2.ensures.1 in
-    (s.requires.0, gone.measure.ensures.1.0, omega (arith, c.if-output-bytes.false, length-of.stale-length.ensures.0, c.verdict_length.ensures.0, bytes, both-length L es fs), s.requires.2, gone.measure.ensures.0, gone.measure.ensures.2)
+    let bytes = measured-length L es fs _ _ _ _ c.measure-gone.ensures.1.0 c.measure-gone.ensures.1.1 c.measure-worse.ensures.0 c.measure-worse.ensures.1 in
+    (c.requires.0, c.measure-gone.ensures.1.0, omega (arith, c.if-output-bytes.false, c.stale_length.ensures.0, c.verdict_length.ensures.0, bytes, both-length L es fs), c.requires.2, c.measure-gone.ensures.0, c.measure-gone.ensures.2)
 
 pub put_verdict-end-requires : goal.put_verdict-end-requires
 put_verdict-end-requires c =
-    let length-of = c in
-    let worse = length-of.before in
-    let joined = worse.before.before in
-    let gone = joined.before in
-    let s = gone.before.before.before.before.before in
-    let a = s.args in
+    let a = c.args in
     let L = limits_of a.limits in
     let es = entries_of_lines a.lines.now in
     let fs = functions_of gate a.tree.now in
-    let bytes = measured-length L es fs _ _ _ _ gone.measure.ensures.1.0 gone.measure.ensures.1.1 worse.measure2.ensures.0 worse.measure2.ensures.1 in (
-      s.requires.0,
-      worse.measure2.ensures.0,
-      omega (arith, c.output-1.given, c.if-output-bytes.false, c.put_stale-next.ensures.0, length-of.stale-length.ensures.0, c.verdict_length.ensures.0, bytes, both-length L es fs),
-      gone.measure.ensures.0,
-      λ e. ⊎_elim (λ w. subst (Filled a.lines.now (functions_of gate a.tree.now)) (sym w.3) w.2.ensures) (λ w. absurd (true_false _ (not-false _ w.0.left) e)) joined.if1.branch,
+    let bytes = measured-length L es fs _ _ _ _ c.measure-gone.ensures.1.0 c.measure-gone.ensures.1.1 c.measure-worse.ensures.0 c.measure-worse.ensures.1 in (
+      c.requires.0,
+      c.measure-worse.ensures.0,
+      omega (arith, c.output-1.given, c.if-output-bytes.false, c.put_stale-next.ensures.0, c.stale_length.ensures.0, c.verdict_length.ensures.0, bytes, both-length L es fs),
+      c.measure-gone.ensures.0,
+      λ e. elim c.if-not-ordered.branch [ then-not-ordered w ↦ subst (Filled a.lines.now (functions_of gate a.tree.now)) (sym w.places-is) w.fill.ensures | else-not-ordered w ↦ absurd (true_false _ w.if-not-ordered.false e) ],
     )
 
 pub overflow_cast-result : goal.overflow_cast-result
@@ -106,16 +91,11 @@ overflow_cast-result-4 c =
 
 pub returns : goal.returns
 returns c =
-    let length-of = c in
-    let worse = length-of.before in
-    let joined = worse.before.before in
-    let gone = joined.before in
-    let s = gone.before.before.before.before.before in
-    let a = s.args in
+    let a = c.args in
     let L = limits_of a.limits in
     let es = entries_of_lines a.lines.now in
     let fs = functions_of gate a.tree.now in
-    let bytes = measured-length L es fs _ _ _ _ gone.measure.ensures.1.0 gone.measure.ensures.1.1 worse.measure2.ensures.0 worse.measure2.ensures.1 in
-    let fits : length (listing L es fs) ≤ length a.output.now = omega (arith, c.if-output-bytes.false, length-of.stale-length.ensures.0, c.verdict_length.ensures.0, bytes) in
+    let bytes = measured-length L es fs _ _ _ _ c.measure-gone.ensures.1.0 c.measure-gone.ensures.1.1 c.measure-worse.ensures.0 c.measure-worse.ensures.1 in
+    let fits : length (listing L es fs) ≤ length a.output.now = omega (arith, c.if-output-bytes.false, c.stale_length.ensures.0, c.verdict_length.ensures.0, bytes) in
     let both = both-put L es fs _ _ a.output.now _ _ fits c.put_stale-next.ensures c.put_verdict-end.ensures in
-    tells-whole _ L es fs a.output.now _ fits (refl, both.0, s.requires.0.count, worse.measure2.ensures.0, gone.measure.ensures.1.0) both.1
+    tells-whole _ L es fs a.output.now _ fits (refl, both.0, c.requires.0.count, c.measure-worse.ensures.0, c.measure-gone.ensures.1.0) both.1
