@@ -7,7 +7,7 @@ use Rattle.std.proofs.Common.{ap, sym, ◌∙◌, add-one, sub-one, length-set, 
 use Rattle.std.proofs.Math.Logic.{inl, inr}
 use native.Mathlib.Omega.{arith}
 use borrow.Author.Tests.{eq-eqb, eqb-false, eqb-true, le-leb, leb-false, leb-true, lt-leb, ne_eqb}
-use Rattle.text_rules.specs.Bytes.{if◌then◌else◌}
+use Rattle.text_rules.specs.Bytes.{if◌then◌otherwise◌}
 use Rattle.text_rules.specs.BytesLaws.{whether}
 use Rattle.text_rules.specs.Classes.{angle_close, angle_open}
 use Rattle.source_rules.specs.Finding.{angle_after}
@@ -18,7 +18,7 @@ same_or_not i j = elim (whether (eqb i j)) [ inl e ↦ inl (eqb-true i j e) | in
 -- how many open brackets the search of an index is inside
 unfoldable pub above : (counts sizes : List ℕ) → (height i : ℕ) → ℕ
 above counts sizes zero i = 0
-above counts sizes (suc k) i = if leb (get_or counts k 0) i then 0 else get_or sizes k 0 + above counts sizes k i
+above counts sizes (suc k) i = if leb (get_or counts k 0) i then 0 otherwise get_or sizes k 0 + above counts sizes k i
 
 -- the first index that is inside none
 unfoldable pub boundary_of : List ℕ → (height : ℕ) → ℕ

@@ -9,7 +9,7 @@ use lib.Dec.{leb}
 use lib.ListN.{length, drop, get_or, drop_of_length-le}
 use borrow.Author.Tests.{eq-eqb, le-leb, leb-true, lt-leb, ne_eqb}
 use mathlib.Core.Logic.{inl, inr}
-use Rattle.text_rules.specs.Bytes.{if◌then◌else◌}
+use Rattle.text_rules.specs.Bytes.{if◌then◌otherwise◌}
 use Rattle.text_rules.specs.BytesLaws.{and_left, whether}
 use Rattle.text_rules.specs.Classes.{is_digit}
 use Rattle.text_rules.specs.Decimal.{all_digits, is_numeral, numeral, parse_number, value_from, without_plus}
@@ -18,7 +18,7 @@ use Rattle.gate_rules.proofs.LoopForms.{value_grows}
 
 -- the number that the digits of s make, behind those that made n
 abbrev pub numeral_from : (limit n : ℕ) → List ℕ → Option ℕ
-numeral_from limit n s = if all_digits s && leb (value_from n s) limit then some (value_from n s) else none
+numeral_from limit n s = if all_digits s && leb (value_from n s) limit then some (value_from n s) otherwise none
 
 pub numeral-none : (limit : ℕ) (s : List ℕ) → length s ≡ 0 → numeral limit s ≡ none
 unfolding numeral is_numeral

@@ -1,7 +1,7 @@
 -- What the answers of this crate stand for, in the words of the rules.
 use Rattle.std.specs.Prelude.{ℕ, ◌+◌, ◌-◌, ◌<◌, ◌≤◌, ◌≡◌, List, ltb, length, get_or}
 use Rattle.std.proofs.Math.Option.{Option, none, some}
-use Rattle.text_rules.specs.Bytes.{if◌then◌else◌, same}
+use Rattle.text_rules.specs.Bytes.{if◌then◌otherwise◌, same}
 use Rattle.text_rules.specs.Classes.{tab}
 use Rattle.text_rules.specs.Lines.{without_cr}
 use Rattle.text_rules.specs.Search.{part}
@@ -17,7 +17,7 @@ use Rattle.baseline.specs.declared.Numeral.TheVariants.{Bad, Value}
 
 -- the line that begins at `from` and ends at `end`: where an LF ends it, it loses one CR
 abbrev pub line_at : List ℕ → (from end : ℕ) → List ℕ
-line_at s from end = if ltb end (length s) then without_cr (part from end s) else part from end s
+line_at s from end = if ltb end (length s) then without_cr (part from end s) otherwise part from end s
 
 abbrev pub number_of : Numeral → Option ℕ
 number_of (Value n) = some n
@@ -42,7 +42,7 @@ PathEnds Nothing a = Unit {0}
 -- an entry, if it has the key
 abbrev pub hit : List ℕ → Option Entry → Option Entry
 hit k none = none
-hit k (some e) = if same (entry_key e) k then some e else none
+hit k (some e) = if same (entry_key e) k then some e otherwise none
 
 -- a key by its bounds, and the key of an entry
 abbrev pub key_in : List ℕ → Key → Option (List ℕ)

@@ -9,7 +9,7 @@ use native.Mathlib.Omega.{arith}
 use lib.Dec.{ltb}
 use lib.ListN.{take, get_or}
 use borrow.Author.Tests.{ltb-false}
-use Rattle.text_rules.specs.Bytes.{before, if◌then◌else◌}
+use Rattle.text_rules.specs.Bytes.{before, if◌then◌otherwise◌}
 use Rattle.text_rules.specs.BytesLaws.{true_false, whether}
 use Rattle.batches.specs.Gathered.{fits, one_more}
 use Rattle.sorted_keys.specs.Held.{Held, Holds, all_first, held_get, held-length, key_at, keys_at}
@@ -17,8 +17,8 @@ use Rattle.sorted_keys.specs.Insert.{insert, insert-past}
 
 module _ (s starts ends : List ℕ) (m : ℕ) (h : Held s starts ends m) where
   module _ (live : List (List ℕ)) (last : Option (List ℕ)) (k : List ℕ) where
-    by_test_lem : (t : Bool) → fits live last k ≡ t → one_more live last k (keys_at s starts ends m) ≡ (if t then insert k (keys_at s starts ends m) else keys_at s starts ends m)
-    by_test_lem t e = ap (λ u. if u then insert k (keys_at s starts ends m) else keys_at s starts ends m) e
+    by_test_lem : (t : Bool) → fits live last k ≡ t → one_more live last k (keys_at s starts ends m) ≡ (if t then insert k (keys_at s starts ends m) otherwise keys_at s starts ends m)
+    by_test_lem t e = ap (λ u. if u then insert k (keys_at s starts ends m) otherwise keys_at s starts ends m) e
 
     -- it may not
     pub passed : fits live last k ≡ false → Holds s starts ends m (take 8192 (one_more live last k (keys_at s starts ends m)))

@@ -10,7 +10,7 @@ use Rattle.std.proofs.Math.Option.{Option}
 use Rattle.std.proofs.Math.ListN.{take}
 use Rattle.std.proofs.Math.Seq.{take-take}
 use Rattle.std.proofs.lemmas.Bool.{not-true}
-use Rattle.text_rules.specs.Bytes.{All, ◌∈◌, among, before, if◌then◌else◌, kept}
+use Rattle.text_rules.specs.Bytes.{All, ◌∈◌, among, before, if◌then◌otherwise◌, kept}
 use Rattle.text_rules.specs.BytesLaws.{All-at, and_left, and_right, kept_iff, whether}
 use Rattle.text_rules.specs.Selection.{Rising}
 use Rattle.gate_rules.specs.Baseline.{Entry, entry_key}
@@ -42,7 +42,7 @@ module _ (live : List (List ℕ)) (last : Option (List ℕ)) where
 
   -- a key more, where it may be taken
   abbrev pub one_more : List ℕ → List (List ℕ) → List (List ℕ)
-  one_more k ks = if fits k then insert k ks else ks
+  one_more k ks = if fits k then insert k ks otherwise ks
 
   -- those of the keys that may be taken, put in one by one
   unfoldable pub gathered : (ks keys : List (List ℕ)) → List (List ℕ)

@@ -10,7 +10,7 @@ use Rattle.std.proofs.Math.ListN.{length-map}
 use Rattle.std.proofs.lemmas.List.{length-replicate}
 use borrow.Author.Tests.{le-ltb, lt-ltb, ltb-false}
 use Rattle.text_rules.specs.Answer.{answer_at}
-use Rattle.text_rules.specs.Bytes.{◌or_else◌, ◌when◌, if◌then◌else◌, overwritten}
+use Rattle.text_rules.specs.Bytes.{◌or_else◌, ◌when◌, if◌then◌otherwise◌, overwritten}
 use Rattle.text_rules.specs.BytesLaws.{map-append, or_else-first, or_else-rest, when-fails}
 use Rattle.gate_rules.proofs.BufferLaws.{refusal-most}
 use Rattle.gate_rules.specs.Calls.{is_scanned, output_after, records_after, room, work_after}
@@ -36,7 +36,7 @@ early_number tree work entries = tree_refusal tree or_else 5 when ltb work (leng
 
 -- the sums that are written at a number
 abbrev pub sums_at : ℕ → List ℕ → List rules.FileSum
-sums_at number tree = if eqb number 0 || eqb number 9 then sums_of gate tree else []
+sums_at number tree = if eqb number 0 || eqb number 9 then sums_of gate tree otherwise []
 
 -- a table of that many entries
 abbrev pub any_table : ℕ → List rules.FileSum
@@ -250,7 +250,7 @@ sums-after : (n : ℕ) (tree : List ℕ) (sums : List rules.FileSum) → overwri
 unfolding sums_after
 sums-after n tree sums = by (eqb n 0 || eqb n 9)
   where
-    by : (b : Bool) → overwritten (if b then sums_of gate tree else []) sums ≡ (if b then overwritten (sums_of gate tree) sums else sums)
+    by : (b : Bool) → overwritten (if b then sums_of gate tree otherwise []) sums ≡ (if b then overwritten (sums_of gate tree) sums otherwise sums)
     by true = refl
     by false = refl
 

@@ -4,7 +4,7 @@ use Rattle.std.proofs.Common.{ap, sym, ◌∙◌, subst, inl, inr, arith}
 use mathlib.Core.List.Memᴰ
 use Rattle.std.proofs.Math.Option.{Option, none, some}
 use Rattle.text_rules.specs.ByteOrder.{by-text}
-use Rattle.text_rules.specs.Bytes.{◌∈◌, among, before, if◌then◌else◌, same}
+use Rattle.text_rules.specs.Bytes.{◌∈◌, among, before, if◌then◌otherwise◌, same}
 use Rattle.text_rules.specs.BytesLaws.{some_same, true_false, whether}
 use Rattle.text_rules.specs.Order.{insert, sort}
 use Rattle.text_rules.specs.Selection.{Rising}
@@ -17,7 +17,7 @@ use Rattle.gate_rules.proofs.StaleLaws.{among_in, among_true, distinct_apart, so
 -- the entries without those that a later one of the same key replaces
 unfoldable pub last_only : List Entry → List Entry
 last_only [] = []
-last_only (e ∷ es) = if among (entry_key e) (map entry_key es) then last_only es else e ∷ last_only es
+last_only (e ∷ es) = if among (entry_key e) (map entry_key es) then last_only es otherwise e ∷ last_only es
 
 abbrev pub key_before : Entry → Entry → Bool
 key_before d e = before (entry_key d) (entry_key e)
@@ -88,7 +88,7 @@ kept_here d es h =
     ]
 
 kept_step : (d : Entry) (es : List Entry) (e : Entry) → (lookup (entry_key e) es ≡ some e → e ∈ last_only es)
-    → (o : Option Entry) → lookup (entry_key e) es ≡ o → later_of (if same (entry_key d) (entry_key e) then some d else none) o ≡ some e → e ∈ last_only (d ∷ es)
+    → (o : Option Entry) → lookup (entry_key e) es ≡ o → later_of (if same (entry_key d) (entry_key e) then some d otherwise none) o ≡ some e → e ∈ last_only (d ∷ es)
 kept_step d es e below (some x) q h = kept-later d es (below (q ∙ h))
 kept_step d es e below none q h =
     elim (whether (same (entry_key d) (entry_key e))) [

@@ -6,7 +6,7 @@ use native.Mathlib.Omega.{arith}
 use Rattle.std.proofs.Math.ListN.{length, length-append}
 use Rattle.std.proofs.lemmas.List.{length-map, length-replicate}
 use Rattle.std.proofs.Common.{length-take}
-use Rattle.text_rules.specs.Bytes.{All, ◌∈◌, if◌then◌else◌, total}
+use Rattle.text_rules.specs.Bytes.{All, ◌∈◌, if◌then◌otherwise◌, total}
 use Rattle.text_rules.specs.BytesLaws.{All-at, All_in, All-map, kept-all, kept-total, total-append, total-both, total-most, total-same}
 use Rattle.text_rules.specs.Decimal.{decimal}
 use Rattle.text_rules.proofs.DecimalLaws.{decimal-length, decimal-length_u64}
@@ -64,15 +64,15 @@ new_length_lem f s =
 
 -- what the lines of one function have together, by any measure of a line: one line that tells of a new function, or two
 module _ (L : Limits) (w : List ℕ → ℕ) where
-  one-most : (b : Bool) (line : List ℕ) → total w (if b then line ∷ [] else []) ≤ w line
+  one-most : (b : Bool) (line : List ℕ) → total w (if b then line ∷ [] otherwise []) ≤ w line
   one-most true line = omega arith
   one-most false line = omega arith
 
   against-most : (f : Fun) (o : Option Entry) (most : ℕ) → w (new_and_over f) ≤ most → ((e : Entry) → o ≡ some e → w (more_branches f e) + w (more_lines f e) ≤ most) → total w (against L f o) ≤ most
   against-most f none most h k = omega (arith, one-most (over L f) (new_and_over f))
   against-most f (some e) most h k =
-      let first = if ltb e.cyclomatic f.cyclomatic then more_branches f e ∷ [] else [] in
-      let second = if ltb e.lines f.lines then more_lines f e ∷ [] else [] in
+      let first = if ltb e.cyclomatic f.cyclomatic then more_branches f e ∷ [] otherwise [] in
+      let second = if ltb e.lines f.lines then more_lines f e ∷ [] otherwise [] in
       omega (
         arith,
         k e refl,

@@ -3,7 +3,7 @@
 use Rattle.std.specs.Prelude.{ℕ, ◌+◌, ◌*◌, ◌-◌, ◌≤◌, ◌≡◌, refl, List, [], ◌∷◌, ◌++◌, eqb}
 use Rattle.std.proofs.Common.{ap, sym, ◌∙◌, append_assoc, append-nil, arith}
 use Rattle.std.proofs.Math.Option.{none, some}
-use Rattle.text_rules.specs.Bytes.{if◌then◌else◌, same}
+use Rattle.text_rules.specs.Bytes.{if◌then◌otherwise◌, same}
 use Rattle.text_rules.specs.Decimal.{value_from}
 use Rattle.text_rules.proofs.LineForms.{cons_if}
 use Rattle.text_rules.specs.Lines.{without_cr}
@@ -14,7 +14,7 @@ use Rattle.gate_rules.specs.Functions.{Fun, Limits, key}
 use Rattle.gate_rules.specs.Update.{row, rows}
 
 -- a line's last byte decides what it loses
-pub without_cr-last : (s : List ℕ) (b : ℕ) → without_cr (s ++ b ∷ []) ≡ (if eqb b 13 then s else s ++ b ∷ [])
+pub without_cr-last : (s : List ℕ) (b : ℕ) → without_cr (s ++ b ∷ []) ≡ (if eqb b 13 then s otherwise s ++ b ∷ [])
 unfolding without_cr
 without_cr-last [] b = refl
 without_cr-last (a ∷ []) b = cons_if (eqb b 13) a [] (b ∷ [])
@@ -24,7 +24,7 @@ without_cr-last (a ∷ c ∷ s) b = ap (λ r. a ∷ r) (without_cr-last (c ∷ s
 pub lookup-append : (k : List ℕ) (es ds : List Entry) → lookup k (es ++ ds) ≡ later_of (lookup k es) (lookup k ds)
 unfolding lookup
 lookup-append k [] ds = sym (later-none (lookup k ds))
-lookup-append k (e ∷ es) ds = rw (lookup-append k es ds) (later_assoc (if same (entry_key e) k then some e else none) (lookup k es) (lookup k ds))
+lookup-append k (e ∷ es) ds = rw (lookup-append k es ds) (later_assoc (if same (entry_key e) k then some e otherwise none) (lookup k es) (lookup k ds))
 
 -- a number only grows with its digits: past the limit, it stays past it
 pub value_grows : (n : ℕ) (s : List ℕ) → n ≤ value_from n s

@@ -9,7 +9,7 @@ use mathlib.Core.List.{List, [], ◌∷◌, ◌++◌}
 use Rattle.std.proofs.Math.Option.{Option, none, some}
 use native.Mathlib.Omega.{arith}
 use borrow.Author.Tests.{ltb-false, eqb-true}
-use Rattle.text_rules.specs.Bytes.{Lacks, ◌∈◌, if◌then◌else◌, kept}
+use Rattle.text_rules.specs.Bytes.{Lacks, ◌∈◌, if◌then◌otherwise◌, kept}
 use Rattle.text_rules.specs.BytesLaws.{All-at, whether}
 use Rattle.gate_rules.specs.Baseline.{Entry, entries, entry_key, lookup}
 use Rattle.gate_rules.proofs.BaselineLaws.{key-name, key-path, lookup-found}
@@ -31,7 +31,7 @@ nil_right : {A : Type 0} (xs ys : List A) → xs ++ ys ≡ [] → ys ≡ []
 nil_right [] ys e = e
 nil_right (x ∷ xs) ys e = cc
 
-test_failed : (b : Bool) (line : List ℕ) → (if b then line ∷ [] else []) ≡ [] → b ≡ false
+test_failed : (b : Bool) (line : List ℕ) → (if b then line ∷ [] otherwise []) ≡ [] → b ≡ false
 test_failed true line e = cc
 test_failed false line e = refl
 
@@ -55,7 +55,7 @@ module _ (L : Limits) where
   is-listed es f h none q r = let z : new_and_over f ∷ [] ≡ [] = rw h at r in let o : ◌≡◌ {A = ℕ} 0 1 = cc in absurd (omega arith)
   is-listed es f h (some e) q r =
       let c = test_failed (ltb e.cyclomatic f.cyclomatic) (more_branches f e) (nil_left _ _ r) in
-      let l = test_failed (ltb e.lines f.lines) (more_lines f e) (nil_right (if ltb e.cyclomatic f.cyclomatic then more_branches f e ∷ [] else []) _ r) in
+      let l = test_failed (ltb e.lines f.lines) (more_lines f e) (nil_right (if ltb e.cyclomatic f.cyclomatic then more_branches f e ∷ [] otherwise []) _ r) in
       let found = lookup-found (key f) es e q in
       (e, record { inside = found.0; same_key = found.1; cyclomatic = ltb-false _ _ c; lines = ltb-false _ _ l })
 

@@ -1,12 +1,12 @@
 -- Records written one after another, as a loop over the functions needs it: each at its place while there is room, and none beyond.
 use Rattle.std.specs.Prelude.{ℕ, suc, ◌*◌, ◌≡◌, List, [], ◌∷◌, ltb, length}
-use Rattle.text_rules.specs.Bytes.{if◌then◌else◌, put_at}
+use Rattle.text_rules.specs.Bytes.{if◌then◌otherwise◌, put_at}
 use Rattle.text_rules.specs.Sizes.{record_width}
 use Rattle.gate_rules.specs.Calls.{room}
 
 -- the record with a number, put at its place, if there is room for it
 unfoldable pub put_record : (number : ℕ) → List ℕ → List ℕ → List ℕ
-put_record number bytes buffer = if ltb number (room buffer) then put_at (record_width * number) bytes buffer else buffer
+put_record number bytes buffer = if ltb number (room buffer) then put_at (record_width * number) bytes buffer otherwise buffer
 
 -- records one after another, the first with the number
 unfoldable pub put_records : (number : ℕ) → List (List ℕ) → List ℕ → List ℕ

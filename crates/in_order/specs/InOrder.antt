@@ -8,7 +8,7 @@ use mathlib.Core.List.{List, [], ◌∷◌, ◌++◌, map}
 use Rattle.std.proofs.Math.Option.{Option, none, some}
 use native.Mathlib.Omega.{arith}
 use Rattle.text_rules.specs.ByteOrder.{before-asym, before_orders, before-total}
-use Rattle.text_rules.specs.Bytes.{All, ◌∈◌, among, before, if◌then◌else◌, same, total}
+use Rattle.text_rules.specs.Bytes.{All, ◌∈◌, among, before, if◌then◌otherwise◌, same, total}
 use Rattle.text_rules.specs.BytesLaws.{All-at, All-map, same_refl, same_true, some_same, total-append, true_false, whether}
 use Rattle.text_rules.specs.Selection.{Rising}
 use Rattle.gate_rules.specs.Baseline.{Entry, entry_key}
@@ -26,7 +26,7 @@ use Rattle.in_order.specs.StaleKeys.{behind}
 
 -- what a key adds to the stale keys: itself, unless it is the last one or a function has it
 abbrev pub added : (live : List (List ℕ)) → (last : Option (List ℕ)) → List ℕ → List (List ℕ)
-added live last k = if repeats last k || among k live then [] else k ∷ []
+added live last k = if repeats last k || among k live then [] otherwise k ∷ []
 
 -- the keys that are stale, each once where equal keys stand together
 unfoldable pub in_order : (live : List (List ℕ)) → (last : Option (List ℕ)) → List (List ℕ) → List (List ℕ)

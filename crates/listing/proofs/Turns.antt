@@ -5,7 +5,7 @@ use mathlib.Core.List.{List, [], ◌∷◌}
 use native.Mathlib.Omega.{arith}
 use lib.Dec.{eqb}
 use lib.ListN.{length, drop, get_or, set, replicate, drop_of_length-le}
-use Rattle.text_rules.specs.Bytes.{if◌then◌else◌, put_at}
+use Rattle.text_rules.specs.Bytes.{if◌then◌otherwise◌, put_at}
 use Rattle.text_rules.specs.Classes.{space, tab}
 use Rattle.text_rules.specs.Decimal.{decimal}
 use Rattle.text_rules.proofs.DecimalSteps.{decimal-more, decimal-one, length_more, length-one}
@@ -30,7 +30,7 @@ module _ (at i : ℕ) (out whole : List ℕ) (inside : at + i < length out) wher
   pub text-turn : (text : List ℕ) → i < length text → put_at (at + i) (drop i text) out ≡ whole → put_at (at + (i + 1)) (drop (i + 1) text) (set out (at + i) (get_or text i 0)) ≡ whole
   text-turn text h = turn (get_or text i 0) (drop (i + 1) text) (drop i text) (split text i h)
 
-  pub spaced-turn : (key : List ℕ) (b : ℕ) → i < length key → b ≡ (if eqb (get_or key i 0) tab then space else get_or key i 0)
+  pub spaced-turn : (key : List ℕ) (b : ℕ) → i < length key → b ≡ (if eqb (get_or key i 0) tab then space otherwise get_or key i 0)
       → put_at (at + i) (spaced (drop i key)) out ≡ whole → put_at (at + (i + 1)) (spaced (drop (i + 1) key)) (set out (at + i) b) ≡ whole
   unfolding spaced
   spaced-turn key b h e = turn b (spaced (drop (i + 1) key)) (spaced (drop i key)) (ap spaced (split key i h) ∙ ap (λ n. n ∷ spaced (drop (i + 1) key)) (sym e))

@@ -3,7 +3,7 @@
 #![tactic(auto)]
 
 ghost use Rattle.std.specs.Prelude.{◌≡◌, ◌+◌, ◌-◌, ◌≤◌, max, eqb, length, replicate};
-ghost use Rattle.text_rules.specs.Bytes.{if◌then◌else◌, put_at};
+ghost use Rattle.text_rules.specs.Bytes.{if◌then◌otherwise◌, put_at};
 ghost use Rattle.text_rules.specs.Classes.{space, tab};
 ghost use Rattle.text_rules.specs.Decimal.{decimal};
 ghost use Rattle.gate_rules.specs.Check.{spaced};
@@ -38,7 +38,7 @@ pub fn put_spaced(out: &mut [u8], at: usize, key: &[u8]) -> usize
 
 // A space for a tab.
 fn untabbed(b: u8) -> u8
-    ensures { result ≡ (if eqb b tab then space else b) }
+    ensures { result ≡ (if eqb b tab then space otherwise b) }
 {
     if b == b'\t' {
         return b' ';

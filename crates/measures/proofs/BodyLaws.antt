@@ -10,7 +10,7 @@ use lib.Dec.{eqb}
 use lib.ListN.{drop, get_or, length, length-drop}
 use lib.Seq.{drop-drop, get_or-drop}
 use borrow.Author.Tests.{eq-eqb, ne_eqb}
-use Rattle.text_rules.specs.Bytes.{among, ascii, if◌then◌else◌, same}
+use Rattle.text_rules.specs.Bytes.{among, ascii, if◌then◌otherwise◌, same}
 use Rattle.text_rules.specs.Classes.{ampersand, angle_close, bar, brace_close, brace_open, class_of, equals, is_letter, is_word, lf, question}
 use Rattle.text_rules.proofs.ClassesLaws.{class_letter}
 use Rattle.text_rules.proofs.ScanLaws.{head_at, split}
@@ -57,11 +57,11 @@ module _ (s : List ℕ) (at : ℕ) (h : at < length s) where
       let p : (1 ≤ piece_length (drop at s)) × (piece_length (drop at s) ≤ length (drop at s)) = rw (split s at h) (piece_inside b rest) in
       (p.0, omega (arith, length-drop at s))
 
-  pub cyclomatic_jump : (n : ℕ) → cyclomatic_from n 0 (drop at s) ≡ cyclomatic_from (if decides (drop at s) then suc n else n) 0 (drop (at + piece_length (drop at s)) s)
+  pub cyclomatic_jump : (n : ℕ) → cyclomatic_from n 0 (drop at s) ≡ cyclomatic_from (if decides (drop at s) then suc n otherwise n) 0 (drop (at + piece_length (drop at s)) s)
   cyclomatic_jump n =
       let p = piece-room in
       let k : at + 1 + pred (piece_length (drop at s)) ≡ at + piece_length (drop at s) = omega arith in
-      let m = if decides (drop at s) then suc n else n in
+      let m = if decides (drop at s) then suc n otherwise n in
       cyclomatic-step s at h n
       ∙ cyclomatic_skip_left m (pred (piece_length (drop at s))) rest (omega (arith, length-drop (at + 1) s))
       ∙ ap (cyclomatic_from m 0) (drop-drop (pred (piece_length (drop at s))) (at + 1) s ∙ ap (λ i. drop i s) k)

@@ -9,7 +9,7 @@ use native.Mathlib.Omega.{arith}
 use lib.Dec.{eqb}
 use lib.ListN.{drop, get_or, length, length-take, take}
 use lib.Seq.{drop-drop, get_or-take}
-use Rattle.text_rules.specs.Bytes.{All, if◌then◌else◌}
+use Rattle.text_rules.specs.Bytes.{All, if◌then◌otherwise◌}
 use Rattle.text_rules.specs.Classes.{brace_close, brace_open, is_letter, lf, question, space}
 use Rattle.text_rules.specs.Search.{opens, part}
 use Rattle.source_rules.specs.Brackets.{partner}
@@ -40,7 +40,7 @@ pub record Walking (s : List ℕ) (from depth nesting lines n at : ℕ) : Type 0
   pub nesting-same : deepest nesting (depth + 1) (drop at (through s from)) ≡ nesting_of (drop from (through s from))
   pub lines_same : line_at lines (drop at (through s from)) ≡ lines_of (drop from (through s from))
 
-at_most : (b : Bool) (n : ℕ) → (if b then suc n else n) ≤ n + 1
+at_most : (b : Bool) (n : ℕ) → (if b then suc n otherwise n) ≤ n + 1
 at_most true n = omega arith
 at_most false n = omega arith
 
@@ -125,7 +125,7 @@ module _ (s : List ℕ) (from depth nesting lines n at : ℕ) (w : Walking s fro
   byte = cut-byte s depth at h (end s from) w.end_same
 
   -- past a piece of bytes that neither change the depth nor begin a line
-  pub piece : (next m : ℕ) → Inner (get_or s at 0) → next ≡ at + piece_length (drop at s) → m ≡ (if decides (drop at s) then suc n else n)
+  pub piece : (next m : ℕ) → Inner (get_or s at 0) → next ≡ at + piece_length (drop at s) → m ≡ (if decides (drop at s) then suc n otherwise n)
       → Walking s from depth nesting lines m next
   piece next m i e f =
       let o = end s from in
@@ -138,8 +138,8 @@ module _ (s : List ℕ) (from depth nesting lines n at : ℕ) (w : Walking s fro
       let decides-same = decides-cut s depth at h i o p in
       let jump : cyclomatic_from n 0 (drop at t) ≡ cyclomatic_from m 0 (drop next t) =
       cyclomatic_jump t at here n
-      ∙ ap (λ k. cyclomatic_from (if decides (drop at t) then suc n else n) 0 (drop (at + k) t)) size_same
-      ∙ ap (λ k. cyclomatic_from (if k then suc n else n) 0 (drop (at + size) t)) decides-same
+      ∙ ap (λ k. cyclomatic_from (if decides (drop at t) then suc n otherwise n) 0 (drop (at + k) t)) size_same
+      ∙ ap (λ k. cyclomatic_from (if k then suc n otherwise n) 0 (drop (at + size) t)) decides-same
       ∙ ap (λ k. cyclomatic_from k 0 (drop (at + size) t)) (sym f)
       ∙ ap (λ k. cyclomatic_from m 0 (drop k t)) (sym e) in
       record {
@@ -160,7 +160,7 @@ module _ (s : List ℕ) (from depth nesting lines n at : ℕ) (w : Walking s fro
   spaced e =
       let one = length_alone s at space e alone_space in
       let none = decides_alone s at space e alone_space in
-      piece (at + 1) n (λ z. omega arith, λ z. omega arith, λ z. omega arith) (ap (λ k. at + k) (sym one)) (ap (λ k. if k then suc n else n) (sym none))
+      piece (at + 1) n (λ z. omega arith, λ z. omega arith, λ z. omega arith) (ap (λ k. at + k) (sym one)) (ap (λ k. if k then suc n otherwise n) (sym none))
 
   -- past an opening brace
   pub opened : get_or s at 0 ≡ brace_open → Walking s from (depth + 1) (max nesting (depth + 1 + 1)) lines n (at + 1)

@@ -4,7 +4,7 @@
 #![tactic(auto)]
 
 ghost use Rattle.std.specs.Prelude.{◌≡◌, false, true, [], ◌∷◌, suc, ◌+◌, ◌≤◌, ◌<◌, max, length, drop, get_or};
-ghost use Rattle.text_rules.specs.Bytes.{among, ascii, if◌then◌else◌, same};
+ghost use Rattle.text_rules.specs.Bytes.{among, ascii, if◌then◌otherwise◌, same};
 ghost use Rattle.text_rules.specs.Classes.{brace_open, is_letter, is_word};
 ghost use Rattle.text_rules.specs.Search.{run};
 ghost use Rattle.source_rules.specs.Measures.{cyclomatic_of, is_pair};
@@ -200,7 +200,7 @@ pub fn walk(body: &[u8]) -> Walked
 // One more where a test passes.
 fn more_one(n: usize, test: bool) -> usize
     requires { n < 18446744073709551615 }
-    ensures { result ≡ (if test then suc n else n) }
+    ensures { result ≡ (if test then suc n otherwise n) }
 {
     if test { n + 1 } else { n }
 }

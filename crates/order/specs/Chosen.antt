@@ -7,7 +7,7 @@ use mathlib.Core.List.{List, [], ◌∷◌, ◌++◌, map}
 use Rattle.std.proofs.Math.Option.{Option, none, some}
 use Rattle.std.proofs.Math.ListN.{drop}
 use Rattle.text_rules.specs.ByteOrder.{Orders}
-use Rattle.text_rules.specs.Bytes.{if◌then◌else◌, kept}
+use Rattle.text_rules.specs.Bytes.{if◌then◌otherwise◌, kept}
 use Rattle.text_rules.specs.BytesLaws.{true_false, whether}
 use Rattle.text_rules.specs.Order.{sort}
 use Rattle.text_rules.specs.Selection.{Placed, ahead, placed_from}
@@ -87,7 +87,7 @@ module _ {A : Type 0} (less : A → A → Bool) (orders : Orders less) (d : A) (
       ]
 
   abbrev pub choice : ℕ → Option (Placed A)
-  choice k = if eqb k (length xs) then none else some (item k)
+  choice k = if eqb k (length xs) then none otherwise some (item k)
 
   pub choice-none : (k : ℕ) → k ≡ length xs → choice k ≡ none
   choice-none k e = rw (eq-eqb k (length xs) e)

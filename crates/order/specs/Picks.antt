@@ -11,7 +11,7 @@ use native.Mathlib.Omega.{arith}
 use Rattle.std.proofs.Math.ListN.{take, get_or}
 use borrow.Author.Tests.{lt-ltb, ltb-true, not-true}
 use Rattle.text_rules.specs.ByteOrder.{Orders}
-use Rattle.text_rules.specs.Bytes.{All, if◌then◌else◌, kept}
+use Rattle.text_rules.specs.Bytes.{All, if◌then◌otherwise◌, kept}
 use Rattle.text_rules.specs.BytesLaws.{All-map, and_left, and_right, kept_iff, or_cases, true_false, whether}
 use Rattle.text_rules.specs.Order.{insert, sort}
 use Rattle.text_rules.proofs.OrderLaws.{sort_in}
@@ -39,7 +39,7 @@ module _ {A : Type 0} (less : A → A → Bool) (test : A → Bool) where
           | inl e ↦ elim (orders.splits z y x e) [ inl a ↦ absurd (true_false (less z y) a k) | inr a ↦ absurd (true_false (less y x) a h) ]
         ]
 
-    insert-kept : (x : A) (ys : List A) → Ascending less ys → kept test (insert less x ys) ≡ (if test x then insert less x (kept test ys) else kept test ys)
+    insert-kept : (x : A) (ys : List A) → Ascending less ys → kept test (insert less x ys) ≡ (if test x then insert less x (kept test ys) otherwise kept test ys)
     unfolding insert kept
     insert-kept x [] h = refl
     insert-kept x (y ∷ ys) h =

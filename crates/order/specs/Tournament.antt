@@ -7,7 +7,7 @@ use mathlib.Core.List.Memᴰ
 use Rattle.std.proofs.Math.Option.{Option, none, some}
 use Rattle.std.proofs.lemmas.Bool.{eqb-false}
 use Rattle.text_rules.specs.ByteOrder.{Orders}
-use Rattle.text_rules.specs.Bytes.{All, ◌∈◌, if◌then◌else◌}
+use Rattle.text_rules.specs.Bytes.{All, ◌∈◌, if◌then◌otherwise◌}
 use Rattle.text_rules.specs.BytesLaws.{All-append, whether}
 use Rattle.text_rules.specs.Selection.{Placed, ahead, placed_from}
 use Rattle.text_rules.proofs.SelectionLaws.{ahead-asym}
@@ -25,15 +25,15 @@ halves i = elim (same_or_not i (2 * (i / 2))) [ inl e ↦ inl e | inr e ↦ inr 
 
 -- the leaves of the elements before m hold those that pass the test
 abbrev pub Entered : {A : Type 0} (d : A) (xs : List A) (test : A → Bool) → ℕ → List ℕ → Type 0
-Entered d xs test m ns = (k : ℕ) → k < m → get_or ns (length xs + k) 0 ≡ (if test (get_or xs k d) then k else length xs)
+Entered d xs test m ns = (k : ℕ) → k < m → get_or ns (length xs + k) 0 ≡ (if test (get_or xs k d) then k otherwise length xs)
 
-pub entered_next : {A : Type 0} (d : A) (xs : List A) (test : A → Bool) (k leaf i : ℕ) (ns : List ℕ) → i ≡ length xs + k → i < length ns → leaf ≡ (if test (get_or xs k d) then k else length xs)
+pub entered_next : {A : Type 0} (d : A) (xs : List A) (test : A → Bool) (k leaf i : ℕ) (ns : List ℕ) → i ≡ length xs + k → i < length ns → leaf ≡ (if test (get_or xs k d) then k otherwise length xs)
     → Entered d xs test k ns → Entered d xs test (k + 1) (set ns i leaf)
 entered_next d xs test k leaf i ns e h l b j m =
     elim (same_or_not j k) [
       | inl f ↦
           let here : length xs + j ≡ i = omega arith in
-          ap (λ p. get_or (set ns i leaf) p 0) here ∙ get_or-set_same ns i leaf 0 h ∙ l ∙ ap (λ p. if test (get_or xs p d) then p else length xs) (sym f)
+          ap (λ p. get_or (set ns i leaf) p 0) here ∙ get_or-set_same ns i leaf 0 h ∙ l ∙ ap (λ p. if test (get_or xs p d) then p otherwise length xs) (sym f)
       | inr f ↦ get_or-set_other ns i (length xs + j) leaf 0 (λ q. omega (arith, f)) ∙ b j (omega (arith, f))
     ]
 
@@ -41,7 +41,7 @@ pub entered_small : {A : Type 0} (d : A) (xs : List A) (test : A → Bool) (ns :
 entered_small d xs test ns h j a b =
     let k = j - length xs in
     let same : length xs + k ≡ j = omega arith in
-    let held : get_or ns j 0 ≡ (if test (get_or xs k d) then k else length xs) = subst (λ i. get_or ns i 0 ≡ (if test (get_or xs k d) then k else length xs)) same (h k (omega arith)) in
+    let held : get_or ns j 0 ≡ (if test (get_or xs k d) then k otherwise length xs) = subst (λ i. get_or ns i 0 ≡ (if test (get_or xs k d) then k otherwise length xs)) same (h k (omega arith)) in
     elim (whether (test (get_or xs k d))) [
       | inl t ↦ let e : get_or ns j 0 ≡ k = held ∙ rw t in omega arith
       | inr t ↦ let e : get_or ns j 0 ≡ length xs = held ∙ rw t in omega arith

@@ -4,7 +4,7 @@ use Rattle.std.proofs.Common.{ap, subst, ◌∙◌, inl, inr, append_assoc, appe
 use Rattle.std.proofs.Math.Path.{sym}
 use Rattle.std.proofs.Math.Option.{Option, none, some}
 use Rattle.std.proofs.lemmas.Bool.{eqb-false}
-use Rattle.text_rules.specs.Bytes.{if◌then◌else◌, same}
+use Rattle.text_rules.specs.Bytes.{if◌then◌otherwise◌, same}
 use Rattle.text_rules.specs.BytesLaws.{whether}
 use Rattle.text_rules.specs.Search.{bytes_before, part}
 use Rattle.gate_rules.specs.Baseline.{Entry, entries_of_lines, entry_key, entry_of, later_of, lookup}
@@ -21,7 +21,7 @@ use Rattle.places.specs.Places.{Filled, Marks, entry_at, lists, placed}
 module _ (k : List ℕ) (place : ℕ) (fs : List Fun) (old : List ℕ) where
   -- what a function's place becomes
   abbrev marked : ℕ → ℕ
-  marked i = if same k (key (get_or fs i no_fun)) then place else get_or old i 0
+  marked i = if same k (key (get_or fs i no_fun)) then place otherwise get_or old i 0
 
   -- the functions in front of a number were asked
   pub record Marked (done : ℕ) (new : List ℕ) : Type 0 where
@@ -122,7 +122,7 @@ module _ (s : List ℕ) (fs : List Fun) where
 
   -- what is found of a function in a line more, where that gets its place or it keeps its own
   found : (f : Fun) (o : Option Entry) (before : Option Entry) (from place old : ℕ) → before ≡ placed s old → o ≡ entry_at s from
-      → place ≡ (if lists (key_of_entry o) f then from + 1 else old) → later_of before (hit (key f) o) ≡ placed s place
+      → place ≡ (if lists (key_of_entry o) f then from + 1 otherwise old) → later_of before (hit (key f) o) ≡ placed s place
   found f none before from place old b q e = b ∙ ap (placed s) (sym e)
   found f (some x) before from place old b q e =
       elim (whether (same (entry_key x) (key f))) [
@@ -150,10 +150,10 @@ module _ (s : List ℕ) (fs : List Fun) where
         finds = λ i h.
             one_more (key (get_or fs i no_fun)) u.seen o
             ∙ found (get_or fs i no_fun) o (lookup (key (get_or fs i no_fun)) u.seen) from (get_or new i 0) (get_or old i 0) (u.finds i h) here
-            (m.each i h ∙ ap (λ j. if lists j (get_or fs i no_fun) then from + 1 else get_or old i 0) key-is);
+            (m.each i h ∙ ap (λ j. if lists j (get_or fs i no_fun) then from + 1 otherwise get_or old i 0) key-is);
       }
     where
-      within : (b : Bool) {old new : ℕ} → old ≤ length s → new ≡ (if b then from + 1 else old) → new ≤ length s
+      within : (b : Bool) {old new : ℕ} → old ≤ length s → new ≡ (if b then from + 1 otherwise old) → new ≤ length s
       within true h e = omega arith
       within false h e = omega arith
 

@@ -1,7 +1,7 @@
 -- The line that lists each function, by a number: 0 where none does, and else one more than where the line begins.
 use Rattle.std.specs.Prelude.{ℕ, zero, suc, ◌+◌, ◌≤◌, ◌<◌, ◌≡◌, Bool, false, List, length, drop, get_or}
 use Rattle.std.proofs.Math.Option.{Option, none, some}
-use Rattle.text_rules.specs.Bytes.{if◌then◌else◌, same}
+use Rattle.text_rules.specs.Bytes.{if◌then◌otherwise◌, same}
 use Rattle.text_rules.specs.Classes.{lf}
 use Rattle.text_rules.specs.Search.{bytes_before}
 use Rattle.gate_rules.specs.Baseline.{Entry, entries_of_lines, entry_of, lookup}
@@ -31,4 +31,4 @@ lists (some k) f = same k (key f)
 -- the functions that a line lists get its place, the others keep theirs
 pub record Marks (k : Option (List ℕ)) (place : ℕ) (fs : List Fun) (old new : List ℕ) : Type 0 where
   pub same_length : length new ≡ length old
-  pub each : (i : ℕ) → i < length fs → get_or new i 0 ≡ (if lists k (get_or fs i no_fun) then place else get_or old i 0)
+  pub each : (i : ℕ) → i < length fs → get_or new i 0 ≡ (if lists k (get_or fs i no_fun) then place otherwise get_or old i 0)

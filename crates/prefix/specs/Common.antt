@@ -4,7 +4,7 @@ use Rattle.std.specs.Prelude.{ℕ, zero, suc, ◌+◌, ◌≤◌, ◌<◌, min, 
 use Rattle.std.proofs.Common.{ap, ap₂, sym, ◌∙◌, inl, inr, arith, drop_of_length-le, eq-eqb, eqb-true, le-ltb, lt-ltb, ltb-false, ltb-true, ne_eqb}
 use Rattle.std.proofs.Math.Option.{Option, none, some}
 use Rattle.std.proofs.lemmas.Bool.{eqb-false}
-use Rattle.text_rules.specs.Bytes.{before, if◌then◌else◌, same}
+use Rattle.text_rules.specs.Bytes.{before, if◌then◌otherwise◌, same}
 use Rattle.text_rules.specs.BytesLaws.{whether}
 use Rattle.text_rules.specs.Classes.{tab}
 use Rattle.text_rules.proofs.ScanLaws.{split}
@@ -13,7 +13,7 @@ use Rattle.text_rules.specs.Search.{bytes_before, run}
 unfoldable pub common : List ℕ → List ℕ → ℕ
 common [] t = 0
 common (x ∷ l) [] = 0
-common (x ∷ l) (y ∷ t) = if eqb x y then suc (common l t) else 0
+common (x ∷ l) (y ∷ t) = if eqb x y then suc (common l t) otherwise 0
 
 -- with a key, where there is one
 abbrev pub common_with : Option (List ℕ) → List ℕ → ℕ

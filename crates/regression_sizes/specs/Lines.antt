@@ -2,7 +2,7 @@
 use Rattle.std.specs.Prelude.{ℕ, ◌+◌, ◌-◌, ◌≤◌, ◌≡◌, refl, true, false, List, [], ◌∷◌, ◌++◌, ltb, length}
 use Rattle.std.proofs.Common.{ap, subst, sym, ◌∙◌, append_assoc, append-nil, arith, length-append}
 use Rattle.std.proofs.Math.Option.{Option, none, some}
-use Rattle.text_rules.specs.Bytes.{ascii, if◌then◌else◌, joined}
+use Rattle.text_rules.specs.Bytes.{ascii, if◌then◌otherwise◌, joined}
 use Rattle.text_rules.specs.Decimal.{decimal}
 use Rattle.text_rules.proofs.SearchLaws.{part_length}
 use Rattle.text_rules.proofs.WriterLaws.{joined_length}
@@ -25,17 +25,17 @@ entry_of m = record { path = []; name = []; cyclomatic = m.cyclomatic; lines = m
 
 -- the line of a listed function with a higher cyclomatic number, the one with more lines, and both
 abbrev pub branches_of : Fun → Recorded → List (List ℕ)
-branches_of f m = if ltb m.cyclomatic f.cyclomatic then more_branches f (entry_of m) ∷ [] else []
+branches_of f m = if ltb m.cyclomatic f.cyclomatic then more_branches f (entry_of m) ∷ [] otherwise []
 
 abbrev pub lines_of : Fun → Recorded → List (List ℕ)
-lines_of f m = if ltb m.lines f.lines then more_lines f (entry_of m) ∷ [] else []
+lines_of f m = if ltb m.lines f.lines then more_lines f (entry_of m) ∷ [] otherwise []
 
 abbrev pub grown_of : Fun → Recorded → List (List ℕ)
 grown_of f m = branches_of f m ++ lines_of f m
 
 -- the line of an unlisted function that is over-limit
 abbrev pub new_of : Limits → Fun → List (List ℕ)
-new_of L f = if over L f then new_and_over f ∷ [] else []
+new_of L f = if over L f then new_and_over f ∷ [] otherwise []
 
 -- the lines of a function against what is accepted of it
 abbrev pub accepts : Limits → Fun → Accepted → List (List ℕ)

@@ -2,7 +2,7 @@
 use Rattle.std.specs.Prelude.{ℕ, zero, suc, ◌+◌, ◌*◌, ◌≤◌, ◌<◌, ◌≡◌, refl, Bool, true, false, List, [], ◌∷◌, ◌++◌, map, ltb, length, drop, get_or}
 use Rattle.std.proofs.Common.{ap, ap₂, subst, sym, ◌∙◌, append-nil, arith, length-drop, length-take, le-ltb, lt-ltb}
 use Rattle.std.proofs.lemmas.List.{length-map}
-use Rattle.text_rules.specs.Bytes.{All, if◌then◌else◌, kept, total}
+use Rattle.text_rules.specs.Bytes.{All, if◌then◌otherwise◌, kept, total}
 use Rattle.source_rules.specs.TextScan.{TextFun, functions}
 use Rattle.source_rules.proofs.TextScanLaws.{Fine, functions-fine}
 use Rattle.gate_rules.specs.Functions.{Fun}
@@ -40,7 +40,7 @@ pub record Known (tree of : List ℕ) : Type 0 where
 kept-weights : (fs : List File) → weights functions_of_files fs ≡ kept is_listed (map (weight_of functions_of_files) fs)
 unfolding weights kept is_listed
 kept-weights [] = refl
-kept-weights (f ∷ fs) = ap (λ ws. if ltb 0 (weight_of functions_of_files f).functions then weight_of functions_of_files f ∷ ws else ws) (kept-weights fs)
+kept-weights (f ∷ fs) = ap (λ ws. if ltb 0 (weight_of functions_of_files f).functions then weight_of functions_of_files f ∷ ws otherwise ws) (kept-weights fs)
 
 pub weights-are : (tree : List ℕ) → weights gate.functions_in (gate.files tree) ≡ kept is_listed (listed tree)
 unfolding gate listed

@@ -6,7 +6,7 @@ use Rattle.std.proofs.Math.Bool.{true, false}
 use mathlib.Core.List.{List, [], ◌∷◌}
 use native.Mathlib.Omega.{arith}
 use Rattle.std.proofs.Math.ListN.{length, drop, get_or, drop_of_length-le, length-append}
-use Rattle.text_rules.specs.Bytes.{if◌then◌else◌, kept, total}
+use Rattle.text_rules.specs.Bytes.{if◌then◌otherwise◌, kept, total}
 use Rattle.text_rules.specs.BytesLaws.{total-same}
 use Rattle.text_rules.specs.Order.{sort}
 use Rattle.text_rules.proofs.OrderLaws.{sort-total}
@@ -23,8 +23,8 @@ row_bytes f = length (report_row f)
 module _ (L : Limits) where
   -- the counts c, and r with one function more
   pub record Told (f : Fun) (c r : Counts) : Type 0 where
-    pub over-is : r.over ≡ c.over + (if over L f then 1 else 0)
-    pub bytes_is : r.bytes ≡ c.bytes + (if over L f then row_bytes f else 0)
+    pub over-is : r.over ≡ c.over + (if over L f then 1 otherwise 0)
+    pub bytes_is : r.bytes ≡ c.bytes + (if over L f then row_bytes f otherwise 0)
     pub branches_is : r.branches ≡ c.branches + f.cyclomatic
 
   module _ (f : Fun) (c r : Counts) where
@@ -60,19 +60,19 @@ module _ (L : Limits) where
       split = rw (add-one k) (drop-cons fs k no_fun h)
 
       -- what is counted of the functions from k on
-      over-split : length (kept (over L) (drop k fs)) ≡ (if over L (get_or fs k no_fun) then 1 else 0) + length (kept (over L) (drop (k + 1) fs))
+      over-split : length (kept (over L) (drop k fs)) ≡ (if over L (get_or fs k no_fun) then 1 otherwise 0) + length (kept (over L) (drop (k + 1) fs))
       unfolding kept
       over-split = ap (λ gs. length (kept (over L) gs)) split ∙ one (over L (get_or fs k no_fun))
         where
-          one : (b : Bool) → length (if b then get_or fs k no_fun ∷ kept (over L) (drop (k + 1) fs) else kept (over L) (drop (k + 1) fs)) ≡ (if b then 1 else 0) + length (kept (over L) (drop (k + 1) fs))
+          one : (b : Bool) → length (if b then get_or fs k no_fun ∷ kept (over L) (drop (k + 1) fs) otherwise kept (over L) (drop (k + 1) fs)) ≡ (if b then 1 otherwise 0) + length (kept (over L) (drop (k + 1) fs))
           one true = omega arith
           one false = omega arith
 
-      bytes_split : total row_bytes (kept (over L) (drop k fs)) ≡ (if over L (get_or fs k no_fun) then row_bytes (get_or fs k no_fun) else 0) + total row_bytes (kept (over L) (drop (k + 1) fs))
+      bytes_split : total row_bytes (kept (over L) (drop k fs)) ≡ (if over L (get_or fs k no_fun) then row_bytes (get_or fs k no_fun) otherwise 0) + total row_bytes (kept (over L) (drop (k + 1) fs))
       unfolding kept
       bytes_split = ap (λ gs. total row_bytes (kept (over L) gs)) split ∙ one (over L (get_or fs k no_fun))
         where
-          one : (b : Bool) → total row_bytes (if b then get_or fs k no_fun ∷ kept (over L) (drop (k + 1) fs) else kept (over L) (drop (k + 1) fs)) ≡ (if b then row_bytes (get_or fs k no_fun) else 0) + total row_bytes (kept (over L) (drop (k + 1) fs))
+          one : (b : Bool) → total row_bytes (if b then get_or fs k no_fun ∷ kept (over L) (drop (k + 1) fs) otherwise kept (over L) (drop (k + 1) fs)) ≡ (if b then row_bytes (get_or fs k no_fun) otherwise 0) + total row_bytes (kept (over L) (drop (k + 1) fs))
           one true = omega arith
           one false = omega arith
 
@@ -94,7 +94,7 @@ module _ (L : Limits) where
               branches_is = omega (arith, n.branches_is, t.branches_is, branches_split);
             }
           where
-            one-most : (b : Bool) → (if b then 1 else 0) ≤ 1
+            one-most : (b : Bool) → (if b then 1 otherwise 0) ≤ 1
             one-most true = omega arith
             one-most false = omega arith
 

@@ -8,19 +8,19 @@ use mathlib.Core.List.Memᴰ
 use mathlib.Core.List.{List, [], ◌∷◌, ◌++◌}
 use native.Mathlib.Omega.{arith}
 use Rattle.text_rules.specs.ByteOrder.{before_itself, before-total, before_trans}
-use Rattle.text_rules.specs.Bytes.{All, ◌∈◌, if◌then◌else◌, before, same}
+use Rattle.text_rules.specs.Bytes.{All, ◌∈◌, if◌then◌otherwise◌, before, same}
 use Rattle.text_rules.specs.BytesLaws.{All-at, All-map, same_refl, same_true, true_false, whether}
 use Rattle.text_rules.specs.Selection.{Rising}
 
 -- the key at its place, where it does not stand there yet
 unfoldable pub insert : List ℕ → List (List ℕ) → List (List ℕ)
 insert k [] = k ∷ []
-insert k (j ∷ js) = if before j k then j ∷ insert k js else if same j k then j ∷ js else k ∷ j ∷ js
+insert k (j ∷ js) = if before j k then j ∷ insert k js otherwise if same j k then j ∷ js otherwise k ∷ j ∷ js
 
 -- its place: how many keys at the head stand before it
 unfoldable pub place_of : List ℕ → List (List ℕ) → ℕ
 place_of k [] = 0
-place_of k (j ∷ js) = if before j k then suc (place_of k js) else 0
+place_of k (j ∷ js) = if before j k then suc (place_of k js) otherwise 0
 
 -- an element put in at a place: those from there on stand one further
 module _ {A : Type 0} where

@@ -3,7 +3,7 @@ use Rattle.std.specs.Prelude.{ℕ, zero, suc, pred, ◌+◌, ◌*◌, ◌≤◌,
 use Rattle.std.proofs.Common.{ap, sym, ◌∙◌, subst, inl, inr, arith, length-take, eqb-true}
 use Rattle.std.proofs.Math.Option.{some}
 use Rattle.std.proofs.lemmas.Bool.{eqb-false}
-use Rattle.text_rules.specs.Bytes.{if◌then◌else◌}
+use Rattle.text_rules.specs.Bytes.{if◌then◌otherwise◌}
 use Rattle.text_rules.specs.BytesLaws.{and_left, and_right, whether}
 use Rattle.text_rules.specs.Classes.{brace_close, brace_open, comma, is_letter, lf}
 use Rattle.text_rules.specs.Search.{count_after, ends_in, opens}
@@ -14,7 +14,7 @@ use Rattle.source_rules.proofs.BracketsLaws.{depth_close, depth_open, depth-othe
 use Rattle.source_rules.specs.Measures.{cyclomatic_from, cyclomatic_of, decides, deepest, is_pair, line_at, lines_of, nesting_of, piece_length}
 use Rattle.source_rules.specs.Parameters.{counted, is_closing, is_opening, params_of, parts_from}
 
-more : (b : Bool) (n : ℕ) → (n ≤ (if b then suc n else n)) × ((if b then suc n else n) ≤ suc n)
+more : (b : Bool) (n : ℕ) → (n ≤ (if b then suc n otherwise n)) × ((if b then suc n otherwise n) ≤ suc n)
 more true n = omega arith
 more false n = omega arith
 
@@ -34,7 +34,7 @@ unfolding cyclomatic_from
 cyclomatic-from n skip_left [] = omega arith
 cyclomatic-from n (suc skip_left) (b ∷ s) = omega (arith, cyclomatic-from n skip_left s)
 cyclomatic-from n zero (b ∷ s) =
-    omega (arith, cyclomatic-from (if decides (b ∷ s) then suc n else n) (pred (piece_length (b ∷ s))) s, more (decides (b ∷ s)) n)
+    omega (arith, cyclomatic-from (if decides (b ∷ s) then suc n otherwise n) (pred (piece_length (b ∷ s))) s, more (decides (b ∷ s)) n)
 
 -- a } adds nothing
 brace-last : (b : ℕ) → eqb b brace_close ≡ true → decides (b ∷ []) ≡ false
@@ -48,7 +48,7 @@ cyclomatic-ends n (suc skip_left) (b ∷ []) e = omega arith
 cyclomatic-ends n zero (b ∷ []) e = rw (brace-last b e) (omega arith)
 cyclomatic-ends n (suc skip_left) (b ∷ c ∷ s) e = omega (arith, cyclomatic-ends n skip_left (c ∷ s) e)
 cyclomatic-ends n zero (b ∷ c ∷ s) e =
-    omega (arith, cyclomatic-ends (if decides (b ∷ c ∷ s) then suc n else n) (pred (piece_length (b ∷ c ∷ s))) (c ∷ s) e, more (decides (b ∷ c ∷ s)) n)
+    omega (arith, cyclomatic-ends (if decides (b ∷ c ∷ s) then suc n otherwise n) (pred (piece_length (b ∷ c ∷ s))) (c ∷ s) e, more (decides (b ∷ c ∷ s)) n)
 
 -- and neither does a {
 cyclomatic-brace : (n : ℕ) (s : List ℕ) → cyclomatic_from n 0 (brace_open ∷ s) ≡ cyclomatic_from n 0 s
@@ -118,7 +118,7 @@ parts_from_lem n opened closed [] = omega arith
 parts_from_lem n opened closed (b ∷ s) =
     omega (
       arith,
-      parts_from_lem (if eqb b comma && eqb opened closed then suc n else n) (if is_opening b then suc opened else opened) (if is_closing b then suc closed else closed) s,
+      parts_from_lem (if eqb b comma && eqb opened closed then suc n otherwise n) (if is_opening b then suc opened otherwise opened) (if is_closing b then suc closed otherwise closed) s,
       more (eqb b comma && eqb opened closed) n,
     )
 

@@ -5,7 +5,7 @@ use Rattle.std.proofs.Common.{ap, sym, ◌∙◌, subst, inl, inr, length-drop, 
 use mathlib.Core.List.{List, [], ◌∷◌}
 use Rattle.std.proofs.Math.Option.{Option, none, some}
 use native.Mathlib.Omega.{arith}
-use Rattle.text_rules.specs.Bytes.{All, Plain, ◌or_else◌, if◌then◌else◌, total}
+use Rattle.text_rules.specs.Bytes.{All, Plain, ◌or_else◌, if◌then◌otherwise◌, total}
 use Rattle.text_rules.specs.BytesLaws.{All-map, and_left, and_right, total-most, total-same, whether}
 use Rattle.text_rules.specs.Classes.{brace_open, class_of, is_digit, is_letter, is_space, is_word, lf}
 use Rattle.text_rules.proofs.ClassesLaws.{digit_range_lem, letter_range}
@@ -172,7 +172,7 @@ sought-start span_left skip_left prev s p e =
       | inr t ↦ let h : none ≡ some p = rw t at e in let z : ◌≡◌ {A = ℕ} 0 1 = cc in absurd (omega arith)
     ]
 
-step-least : (word : Bool) (skip_left : ℕ) → skip_left ≤ (skip_left or_else (if word then 2 else 1))
+step-least : (word : Bool) (skip_left : ℕ) → skip_left ≤ (skip_left or_else (if word then 2 otherwise 1))
 step-least word zero = omega arith
 step-least word (suc skip_left) = omega arith
 

@@ -10,7 +10,7 @@ use Rattle.std.proofs.Math.Numerals.{add-one, sub-one}
 use native.Mathlib.Omega.{arith}
 use borrow.Author.Tests.{eqb-true, lt-ltb, ne_eqb}
 use Rattle.std.proofs.Math.ListN.{length-drop}
-use Rattle.text_rules.specs.Bytes.{◌or_else◌, ascii, if◌then◌else◌}
+use Rattle.text_rules.specs.Bytes.{◌or_else◌, ascii, if◌then◌otherwise◌}
 use Rattle.text_rules.specs.BytesLaws.{and_left, whether}
 use Rattle.text_rules.specs.Classes.{class_of, hash, is_space, is_word, lf}
 use Rattle.text_rules.specs.Search.{count_after, run, starts_with}
@@ -57,7 +57,7 @@ skip_one span_at at line span_left prev [] e = refl
 skip_one span_at at line span_left prev (b ∷ s) e = rw (no_fn prev (b ∷ s) e, and-false (eqb (span_left or_else span_at (b ∷ s)) 0 && eqb 1 0), and-false (eqb (span_left or_else span_at (b ∷ s)) 0 && eqb 0 0))
 
 skip_past : (span_at : List ℕ → ℕ) (at line span_left skip_left prev : ℕ) (s : List ℕ) (word : Bool) → (word ≡ true → is_word prev ≡ true)
-    → functions_from span_at at line span_left (pred (skip_left or_else (if word then 2 else 1))) prev s ≡ functions_from span_at at line span_left (pred skip_left) prev s
+    → functions_from span_at at line span_left (pred (skip_left or_else (if word then 2 otherwise 1))) prev s ≡ functions_from span_at at line span_left (pred skip_left) prev s
 skip_past span_at at line span_left zero prev s true e = skip_one span_at at line span_left prev s (e refl)
 skip_past span_at at line span_left zero prev s false e = refl
 skip_past span_at at line span_left (suc n) prev s word e = refl

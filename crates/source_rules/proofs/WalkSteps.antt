@@ -9,7 +9,7 @@ use Rattle.std.proofs.Math.Option.{none, some}
 use borrow.Author.Tests.{eq-eqb, ne_eqb}
 use Rattle.std.proofs.Math.Dec.{eqb}
 use Rattle.std.proofs.Math.Seq.{drop-cons}
-use Rattle.text_rules.specs.Bytes.{◌or_else◌, if◌then◌else◌}
+use Rattle.text_rules.specs.Bytes.{◌or_else◌, if◌then◌otherwise◌}
 use Rattle.text_rules.specs.BytesLaws.{whether}
 use Rattle.text_rules.specs.Classes.{brace_close, brace_open, comma, lf, semicolon, square_close, square_open}
 use Rattle.text_rules.specs.Search.{count_after, find}
@@ -28,16 +28,16 @@ module _ (s : List ℕ) (at : ℕ) (h : at < length s) where
   abbrev rest : List ℕ
   rest = drop (at + 1) s
 
-  pub find-step : (x : ℕ) → find x at (drop at s) ≡ (if eqb b x then some at else find x (at + 1) rest)
+  pub find-step : (x : ℕ) → find x at (drop at s) ≡ (if eqb b x then some at otherwise find x (at + 1) rest)
   unfolding find
   find-step x = rw (add-one at) (ap (find x at) (drop-cons s at 0 h))
 
-  pub partner-step : (o c d : ℕ) → partner o c d at (drop at s) ≡ (if eqb b c && eqb d 0 then some at else partner o c (depth_after o c b d) (at + 1) rest)
+  pub partner-step : (o c d : ℕ) → partner o c d at (drop at s) ≡ (if eqb b c && eqb d 0 then some at otherwise partner o c (depth_after o c b d) (at + 1) rest)
   unfolding partner
   partner-step o c d = rw (add-one at) (ap (partner o c d at) (drop-cons s at 0 h))
 
   pub body-step : (angle opened closed : ℕ) → body_at angle opened closed at (drop at s)
-      ≡ (if flat angle opened closed && eqb b brace_open then some at else if flat angle opened closed && eqb b semicolon then none else body_at (angle_after b angle) (count_after square_open b opened) (count_after square_close b closed) (at + 1) rest)
+      ≡ (if flat angle opened closed && eqb b brace_open then some at otherwise if flat angle opened closed && eqb b semicolon then none otherwise body_at (angle_after b angle) (count_after square_open b opened) (count_after square_close b closed) (at + 1) rest)
   unfolding body_at
   body-step angle opened closed = rw (add-one at) (ap (body_at angle opened closed at) (drop-cons s at 0 h))
 
@@ -49,12 +49,12 @@ module _ (s : List ℕ) (at : ℕ) (h : at < length s) where
   unfolding deepest
   deepest-step reached depth = rw (add-one at) (ap (deepest reached depth) (drop-cons s at 0 h))
 
-  pub cyclomatic-step : (n : ℕ) → cyclomatic_from n 0 (drop at s) ≡ cyclomatic_from (if decides (drop at s) then suc n else n) (pred (piece_length (drop at s))) rest
+  pub cyclomatic-step : (n : ℕ) → cyclomatic_from n 0 (drop at s) ≡ cyclomatic_from (if decides (drop at s) then suc n otherwise n) (pred (piece_length (drop at s))) rest
   unfolding cyclomatic_from
   cyclomatic-step n = rw (add-one at, drop-cons s at 0 h)
 
   pub parts-step : (n opened closed : ℕ) → parts_from n opened closed (drop at s)
-      ≡ parts_from (if eqb b comma && eqb opened closed then suc n else n) (if is_opening b then suc opened else opened) (if is_closing b then suc closed else closed) rest
+      ≡ parts_from (if eqb b comma && eqb opened closed then suc n otherwise n) (if is_opening b then suc opened otherwise opened) (if is_closing b then suc closed otherwise closed) rest
   unfolding parts_from
   parts-step n opened closed = rw (add-one at) (ap (parts_from n opened closed) (drop-cons s at 0 h))
 
@@ -86,7 +86,7 @@ module _ (s : List ℕ) (at : ℕ) (h : at < length s) where
     span = span_left or_else span_at (drop at s)
 
     pub functions-none : sought span skip_left prev (drop at s) ≡ none → functions_from span_at at line span_left skip_left prev (drop at s)
-        ≡ functions_from span_at (at + 1) (count_after lf b line) (pred span) (pred (skip_left or_else (if is_fn prev (drop at s) then 2 else 1))) b rest
+        ≡ functions_from span_at (at + 1) (count_after lf b line) (pred span) (pred (skip_left or_else (if is_fn prev (drop at s) then 2 otherwise 1))) b rest
     functions-none e = functions-step span_at line span_left skip_left prev ∙ rw e
 
     pub functions-some : (p : Places) → sought span skip_left prev (drop at s) ≡ some p → functions_from span_at at line span_left skip_left prev (drop at s)

@@ -2,7 +2,7 @@
 use Rattle.std.specs.Prelude.{ℕ, zero, suc, ◌+◌, ◌-◌, ◌≤◌, ◌<◌, ◌≡◌, refl, Bool, true, false, List, [], ◌∷◌, ◌++◌, eqb, length, take, drop, get_or}
 use Rattle.std.proofs.Common.{ap, ap₂, sym, ◌∙◌, inl, inr, add-one, length-drop, drop-drop, get_or-drop, take_all, eq-eqb, eqb-true, ne_eqb}
 use native.Mathlib.Omega.{arith}
-use Rattle.text_rules.specs.Bytes.{if◌then◌else◌}
+use Rattle.text_rules.specs.Bytes.{if◌then◌otherwise◌}
 use Rattle.text_rules.specs.BytesLaws.{whether}
 use Rattle.text_rules.specs.Lines.{ended, in_front, lines_in, split, without_cr}
 use Rattle.text_rules.proofs.LinesLaws.{split-some}
@@ -88,11 +88,11 @@ module _ (s : List ℕ) (from end : ℕ) (e : end ≡ from + bytes_before 10 (dr
   line-last h = rw (piece-last 10 s from end e h)
 
 -- the last byte of a line decides what it loses
-pub cons_if : (t : Bool) (b : ℕ) (x y : List ℕ) → b ∷ (if t then x else y) ≡ (if t then b ∷ x else b ∷ y)
+pub cons_if : (t : Bool) (b : ℕ) (x y : List ℕ) → b ∷ (if t then x otherwise y) ≡ (if t then b ∷ x otherwise b ∷ y)
 cons_if true b x y = refl
 cons_if false b x y = refl
 
-trim : (s : List ℕ) (n : ℕ) → n < length s → without_cr (take (suc n) s) ≡ (if eqb (get_or s n 0) 13 then take n s else take (suc n) s)
+trim : (s : List ℕ) (n : ℕ) → n < length s → without_cr (take (suc n) s) ≡ (if eqb (get_or s n 0) 13 then take n s otherwise take (suc n) s)
 unfolding without_cr
 trim [] n h = absurd (omega arith)
 trim (b ∷ s) zero h = refl
@@ -105,7 +105,7 @@ module _ (s : List ℕ) (from end : ℕ) where
   trim-none h = let z : end - from ≡ 0 = omega arith in rw z
 
   module _ (h : from < end) (k : end ≤ length s) where
-    trim-part : without_cr (part from end s) ≡ (if eqb (get_or s (end - 1) 0) 13 then part from (end - 1) s else part from end s)
+    trim-part : without_cr (part from end s) ≡ (if eqb (get_or s (end - 1) 0) 13 then part from (end - 1) s otherwise part from end s)
     trim-part =
         let n : ℕ = end - 1 - from in
         let one : suc n ≡ end - from = omega arith in
@@ -113,7 +113,7 @@ module _ (s : List ℕ) (from end : ℕ) where
         let b : get_or (drop from s) n 0 ≡ get_or s (end - 1) 0 = get_or-drop from s n 0 ∙ ap (λ m. get_or s m 0) place in
         ap (λ m. without_cr (take m (drop from s))) (sym one)
         ∙ trim (drop from s) n (omega (arith, length-drop from s))
-        ∙ ap₂ (λ (c m : ℕ). if eqb c 13 then take n (drop from s) else take m (drop from s)) b one
+        ∙ ap₂ (λ (c m : ℕ). if eqb c 13 then take n (drop from s) otherwise take m (drop from s)) b one
 
     pub trim-cr : get_or s (end - 1) 0 ≡ 13 → without_cr (part from end s) ≡ part from (end - 1) s
     trim-cr q = trim-part ∙ rw (eq-eqb (get_or s (end - 1) 0) 13 q)

@@ -6,7 +6,7 @@ use Rattle.std.proofs.Math.Logic.{inl, inr}
 use mathlib.Core.List.{List, [], ◌∷◌}
 use borrow.Author.Tests.{not-true}
 use Rattle.text_rules.specs.ByteOrder.{Orders}
-use Rattle.text_rules.specs.Bytes.{All, ◌∈◌, if◌then◌else◌, kept, total}
+use Rattle.text_rules.specs.Bytes.{All, ◌∈◌, if◌then◌otherwise◌, kept, total}
 use Rattle.text_rules.specs.BytesLaws.{All-at, All_in, All-map, and_left, and_right, true_false, whether}
 use Rattle.text_rules.specs.Order.{insert, sort}
 use Rattle.text_rules.proofs.OrderLaws.{insert_all, sort-all, sort_in, sort-total}
@@ -85,7 +85,7 @@ module _ {A : Type 0} (less : A → A → Bool) where
     sort-ties : (x : A) (xs : List A) → kept (ties x) (sort less xs) ≡ kept (ties x) xs
     unfolding sort kept
     sort-ties x [] = refl
-    sort-ties x (y ∷ xs) = insert-ties x y (sort less xs) ∙ ap (λ r. if ties x y then y ∷ r else r) (sort-ties x xs)
+    sort-ties x (y ∷ xs) = insert-ties x y (sort less xs) ∙ ap (λ r. if ties x y then y ∷ r otherwise r) (sort-ties x xs)
 
     pub sort-stable : (xs : List A) → StableSort xs (sort less xs)
     sort-stable xs =

@@ -2,7 +2,7 @@
 use Rattle.std.specs.Prelude.{ℕ, zero, suc, ◌+◌, ◌≤◌, ◌<◌, ◌≡◌, refl, ◌⊎◌, Bool, true, List, [], ◌∷◌, length, drop, get_or}
 use Rattle.std.proofs.Common.{ap, sym, ◌∙◌, subst, inl, inr, arith, lit≤, drop-cons, leb-true}
 use Rattle.std.proofs.Math.Bool.{false}
-use Rattle.text_rules.specs.Bytes.{All, if◌then◌else◌}
+use Rattle.text_rules.specs.Bytes.{All, if◌then◌otherwise◌}
 use Rattle.text_rules.specs.BytesLaws.{and_left, and_right, true_false}
 use Rattle.text_rules.specs.Utf8.{Follow, Range, ◌to◌, by, follow, go_on, ill_formed, is_utf8, well_formed_after, within}
 use Rattle.text_rules.proofs.Utf8Laws.{follow-ascii}
@@ -16,7 +16,7 @@ HighFollow ill_formed = Unit {0}
 HighFollow (by rs) = High rs
 
 -- a row of the table, and those that come after it
-high-row : (t : Bool) (rs : List Range) (y : Follow) → High rs → HighFollow y → HighFollow (if t then by rs else y)
+high-row : (t : Bool) (rs : List Range) (y : Follow) → High rs → HighFollow y → HighFollow (if t then by rs otherwise y)
 unfolding HighFollow
 high-row true rs y h k = h
 high-row false rs y h k = k

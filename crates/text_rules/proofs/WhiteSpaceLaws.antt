@@ -1,7 +1,7 @@
 -- A character of white space does not leave the text, and a walk may jump over it.
 use Rattle.std.specs.Prelude.{ℕ, zero, suc, ◌+◌, ◌≤◌, ◌≡◌, refl, Bool, true, false, ◌&&◌, ◌||◌, List, [], ◌∷◌, eqb, leb, length, drop, get_or}
 use Rattle.std.proofs.Common.{ap, ◌∙◌, inl, inr, arith, eqb-true, leb-true}
-use Rattle.text_rules.specs.Bytes.{if◌then◌else◌}
+use Rattle.text_rules.specs.Bytes.{if◌then◌otherwise◌}
 use Rattle.text_rules.specs.BytesLaws.{and_left, and_right, or_cases}
 use Rattle.text_rules.specs.Search.{opens}
 use Rattle.text_rules.proofs.SearchLaws.{in_text, opens-inside}
@@ -38,7 +38,7 @@ third-wide s x y e =
           ]
     ]
 
-pick : (t : Bool) (n m k : ℕ) → (t ≡ true → n ≤ k) → m ≤ k → (if t then n else m) ≤ k
+pick : (t : Bool) (n m k : ℕ) → (t ≡ true → n ≤ k) → m ≤ k → (if t then n otherwise m) ≤ k
 pick true n m k h l = h refl
 pick false n m k h l = l
 

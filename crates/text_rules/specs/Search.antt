@@ -3,7 +3,7 @@
 -- Past the end of a list `get_or` reads 0, a byte that is of no class and that no rule looks for.
 use Rattle.std.specs.Prelude.{ℕ, suc, ◌-◌, Bool, true, false, not, ◌&&◌, ◌||◌, List, [], ◌∷◌, eqb, get_or, take, drop}
 use Rattle.std.proofs.Math.Option.{Option, none, some}
-use Rattle.text_rules.specs.Bytes.{if◌then◌else◌}
+use Rattle.text_rules.specs.Bytes.{if◌then◌otherwise◌}
 
 -- how many bytes at the head pass a test
 unfoldable pub run : (ℕ → Bool) → List ℕ → ℕ
@@ -41,12 +41,12 @@ part from to s = take (to - from) (drop from s)
 
 -- how many bytes are x, behind the byte b: n before it
 unfoldable pub count_after : (x b n : ℕ) → ℕ
-count_after x b n = if eqb b x then suc n else n
+count_after x b n = if eqb b x then suc n otherwise n
 
 -- the place of the first x
 unfoldable pub find : (x at : ℕ) → List ℕ → Option ℕ
 find x at [] = none
-find x at (b ∷ s) = if eqb b x then some at else find x (suc at) s
+find x at (b ∷ s) = if eqb b x then some at otherwise find x (suc at) s
 
 infixr 10 ◌and_then◌
 -- what is done with a place, if there is one

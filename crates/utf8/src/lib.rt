@@ -3,7 +3,7 @@
 #![tactic(auto)]
 
 ghost use Rattle.std.specs.Prelude.{◌≡◌, ◌&&◌, ◌||◌, [], ◌∷◌, ◌≤◌, ◌<◌, eqb, length, get_or, drop};
-ghost use Rattle.text_rules.specs.Bytes.{if◌then◌else◌};
+ghost use Rattle.text_rules.specs.Bytes.{if◌then◌otherwise◌};
 ghost use Rattle.text_rules.specs.Classes.{space};
 ghost use Rattle.text_rules.specs.Search.{part};
 ghost use Rattle.text_rules.specs.Utf8.{◌to◌, is_utf8, within};
@@ -213,7 +213,7 @@ fn pair(a: u8, b: u8, x: u8, y: u8) -> bool
 
 // `n` where a test passes, and else 0.
 fn length_if(test: bool, n: usize) -> usize
-    ensures { result ≡ (if test then n else 0) }
+    ensures { result ≡ (if test then n otherwise 0) }
 {
     if test { n } else { 0 }
 }

@@ -3,7 +3,7 @@ use Prim.Native.Nat.{suc, ◌+◌}
 use mathlib.Core.Path.{◌∙◌, ap, subst, sym}
 use native.Mathlib.Omega.{arith}
 use lib.ListN.{get_or}
-use Rattle.text_rules.specs.Bytes.{if◌then◌else◌}
+use Rattle.text_rules.specs.Bytes.{if◌then◌otherwise◌}
 use Rattle.measures.specs.Walks.{WalkedFrom}
 use Rattle.measures.proofs.BodyLaws.{letter_class, other_class, piece-room}
 use Rattle.measures.proofs.Cut.{letter_inner}
@@ -54,7 +54,7 @@ loop-at-preserved-then-class_in-eq3 c =
     let a = c.args in
     let s = a.s.now in
     let i = letter_inner (get_or s c.loop-at.at 0) c.class_in.result c.class_in.ensures c.if-class_in-eq3.true in
-    let m = c.more_one-n.ensures ∙ ap (λ b. if b then suc c.loop-at.n else c.loop-at.n) p.ensures.decides-is in
+    let m = c.more_one-n.ensures ∙ ap (λ b. if b then suc c.loop-at.n otherwise c.loop-at.n) p.ensures.decides-is in
     piece s a.from c.loop-at.depth c.loop-at.nesting c.loop-at.lines c.loop-at.n c.loop-at.at c.loop-at.invariant (omega arith)
     p.result.end c.more_one-n.result i p.ensures.end_is m
 
@@ -138,7 +138,7 @@ pub loop-at-preserved : goal.loop-at-preserved
 loop-at-preserved c =
     let p = c.mark_at-p in
     let a = c.args in
-    let m = c.more_one-n-else-b-eq125.ensures ∙ ap (λ k. if k then suc c.loop-at.n else c.loop-at.n) p.ensures.decides-is in
+    let m = c.more_one-n-else-b-eq125.ensures ∙ ap (λ k. if k then suc c.loop-at.n otherwise c.loop-at.n) p.ensures.decides-is in
     piece a.s.now a.from c.loop-at.depth c.loop-at.nesting c.loop-at.lines c.loop-at.n c.loop-at.at c.loop-at.invariant (omega arith)
     p.result.end c.more_one-n-else-b-eq125.result (c.if-b-eq123.false, c.if-b-eq125.false, c.if-b-eq10.false) p.ensures.end_is m
 
