@@ -1,0 +1,18 @@
+-- `complexity::update_counts` meets its contract: the counts are put one after another, where the number is 0.
+use mathlib.Core.Path.{refl}
+use native.Mathlib.Omega.{arith}
+use Rattle.complexity.proofs.Counts.{three-put}
+use Rattle.complexity.proofs.update_counts.Goals as goal
+
+pub returns-then-r-eq0 : goal.returns-then-r-eq0
+returns-then-r-eq0 c =
+    let a = c.args in (
+      refl,
+      record {
+        success = λ z. three-put a.r.written a.counts.now _ c.put_u32.ensures a.r.functions _ c.put_u32-then-r-eq0.ensures a.r.recorded _ c.put_u32-then-r-eq0-2.ensures c.requires;
+        refused = λ h. absurd (omega (arith, c.if-r-eq0.true));
+      },
+    )
+
+pub returns-else-r-eq0 : goal.returns-else-r-eq0
+returns-else-r-eq0 c = (refl, record { success = λ z. absurd (c.if-r-eq0.false z); refused = λ h. refl })
