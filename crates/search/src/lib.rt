@@ -397,3 +397,16 @@ pub fn test_mark(s: &[u8], at: usize) -> bool
 {
     begins(s, at, b"#[cfg(test)]")
 }
+
+#[cfg(test)]
+mod tests {
+    use super::test_mark;
+
+    #[test]
+    fn marked(rt: HostRuntime) {
+        assert!(rt; test_mark(b"    #[cfg(test)]\nmod tests {", 4));
+        assert!(rt; !test_mark(b"    #[cfg(test)]\nmod tests {", 0));
+        assert!(rt; !test_mark(b"#[cfg(tests)]", 0));
+        assert!(rt; !test_mark(b"#[cfg(test)", 0));
+    }
+}
