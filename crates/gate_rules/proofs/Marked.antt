@@ -58,7 +58,7 @@ pub record Marked : Type 0 where
   pub open_string : blanked (ascii "\"a\\") ≡ ascii "   "
   pub lifetime : blanked (ascii "&'a str") ≡ ascii "&'a str"
   pub raw_string : blanked (ascii "r#\"a\"#b") ≡ ascii "      b"
-  -- `fn` with an opening parenthesis straight after it is no function; for every continuation in FnTypeLaws
+  -- `fn` with an opening parenthesis straight after it is no function; for every continuation in CountLaws
   pub fn_type : functions (ascii "fn(u8) -> u8 {}") ≡ []
   -- parameters
   pub mut_self : params_of (ascii "mut self, b") ≡ 1

@@ -1,5 +1,7 @@
+-- Cases, computed
 pub mod TextComputes
 pub mod TextCorners
+-- Laws
 pub mod BlankLaws
 pub mod BlankUtf8
 pub mod BracketsLaws
