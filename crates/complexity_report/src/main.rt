@@ -11,6 +11,7 @@ ghost use Rattle.programs.specs.Lines.{Starts};
 const MOST: usize = 65536;
 
 // What is printed, at the start of the output.
+#[tactic(auto, using(crate::proofs::Refusals::refusals))]
 fn put_answer(tree: &[u8], work: &mut [u8], lent: &mut [u8], output: &mut [u8]) -> usize
     requires { (work.old ≡ zeros) × (lent.old ≡ zeros) × (output.old ≡ zeros) }
     ensures { Starts result output.new (report_program tree.now) }

@@ -2,18 +2,12 @@
 use mathlib.Core.Path.{◌∙◌}
 use native.Mathlib.Omega.{arith}
 use Rattle.programs.specs.Lines.{line-fits}
-use Rattle.complexity_report.specs.Printed.{listing-printed, long-printed, refused-printed}
+use Rattle.complexity_report.specs.Printed.{listing-printed, refused-printed}
 use Rattle.complexity_report.proofs.put_answer.Goals as goal
 
 pub put_refusal-requires : goal.put_refusal-requires
 put_refusal-requires c =
     line-fits c.args.output.now c.requires.2
-
-pub returns-then-tree-gt-MOST : goal.returns-then-tree-gt-MOST
-returns-then-tree-gt-MOST c =
-    let a = c.args in
-    let e = c.put_refusal.ensures in
-    (e.0, e.1 ∙ long-printed a.tree.now c.if-tree-gt-MOST.true)
 
 pub put_refusal-requires-then-r-ne0 : goal.put_refusal-requires-then-r-ne0
 put_refusal-requires-then-r-ne0 c =
