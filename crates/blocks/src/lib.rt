@@ -2,43 +2,31 @@
 // nothing begins in them. A byte of the block that its caller read before keeps the compiler from that, so callers ask blocks in a loop of their own.
 #![tactic(auto)]
 
-ghost use Rattle.std.specs.Prelude.{◌≡◌, true, ◌+◌, ◌≤◌, length, drop};
+ghost use Rattle.std.specs.Prelude.{◌≡◌, ℕ, true, ◌+◌, ◌≤◌, ◌<◌, length, get_or, drop};
 ghost use Rattle.text_rules.specs.Search.{bytes_before};
-ghost use Rattle.blocks.specs.Blocks.{Below, Lacks, count_from};
+ghost use Rattle.blocks.specs.Blocks.{Lacks, count_from};
 
 // The bytes of a block.
 pub const WIDTH: usize = 16;
+
+// Whether each byte of a block passes a test. Bytes behind one that fails are asked too, so that the compiler asks all at once.
+fn every<F: Fn(u8) -> bool>(block: &[u8], test: F) -> bool
+    requires { F.IsAlwaysCallable test }
+    ensures { result ≡ true → (k : ℕ) → k < length block.now → F.post test (get_or block.now k 0) true }
+{
+    let mut all = true;
+    for b in block {
+        all &= test(*b);
+    }
+    all
+}
 
 // Whether no byte of the block at a place is `x`.
 pub fn lacks(s: &[u8], at: usize, x: u8) -> bool
     requires { at + 16 ≤ length s.now }
     ensures { result ≡ true → Lacks x s.now at 16 }
 {
-    let mut none = true;
-    let mut i: usize = 0;
-    while i < WIDTH {
-        if s[at + i] == x {
-            none = false;
-        }
-        i += 1;
-    }
-    none
-}
-
-// Whether the block at a place is ASCII. DEL, 127, counts as beyond: the compiler makes more instructions of a test of the highest bit.
-pub fn is_ascii(s: &[u8], at: usize) -> bool
-    requires { at + 16 ≤ length s.now }
-    ensures { result ≡ true → Below 128 s.now at 16 }
-{
-    let mut all = true;
-    let mut i: usize = 0;
-    while i < WIDTH {
-        if 127 <= s[at + i] {
-            all = false;
-        }
-        i += 1;
-    }
-    all
+    every(&s[at..at + WIDTH], |b| b != x)
 }
 
 // How many bytes of the block at a place are `x`.
@@ -47,29 +35,46 @@ pub fn count(s: &[u8], at: usize, x: u8) -> usize
     ensures { (result ≡ count_from x s.now at 16) × (result ≤ 16) }
 {
     let mut n: u8 = 0;
-    let mut i: usize = 0;
-    while i < WIDTH {
-        if s[at + i] == x {
-            n += 1;
-        }
-        i += 1;
+    for b in &s[at..at + WIDTH] {
+        n += u8::from(*b == x);
     }
-    n as usize
+    usize::from(n)
 }
 
-// Past the blocks at a place that have no `x`.
+// Past the blocks from a place on each byte of which passes a test.
+pub fn past_while<F: Fn(u8) -> bool>(s: &[u8], from: usize, test: F) -> usize
+    requires inside { from ≤ length s.now }
+    requires callable { F.IsAlwaysCallable test }
+    ensures low { from ≤ result }
+    ensures high { result ≤ length s.now }
+    ensures passed { (k : ℕ) → from ≤ k → k < result → F.post test (get_or s.now k 0) true }
+{
+    let mut at = from;
+    for block in s[from..].chunks_exact(WIDTH) {
+        if !every(block, &test) {
+            return at;
+        }
+        at += WIDTH;
+    }
+    at
+}
+
+// Past the blocks of ASCII from a place on. DEL, 127, counts as beyond: the compiler makes more instructions of a test of the highest bit.
+pub fn past_ascii(s: &[u8], from: usize) -> usize
+    requires { from ≤ length s.now }
+    ensures low { from ≤ result }
+    ensures high { result ≤ length s.now }
+    ensures ascii { (k : ℕ) → from ≤ k → k < result → get_or s.now k 0 < 128 }
+{
+    past_while(s, from, |b| b < 127)
+}
+
+// Past the blocks from a place on that have no `x`.
 pub fn past(s: &[u8], from: usize, x: u8) -> usize
     requires { from ≤ length s.now }
     ensures { (result ≤ length s.now)
         × (from + bytes_before x (drop from s.now) ≡ result + bytes_before x (drop result s.now))
         × (from ≤ result) }
 {
-    let mut at = from;
-    while WIDTH <= s.len() - at {
-        if !lacks(s, at, x) {
-            return at;
-        }
-        at += WIDTH;
-    }
-    at
+    past_while(s, from, |b| b != x)
 }

@@ -1,19 +1,13 @@
--- `blocks::lacks` meets its contract: while no byte before the i-th is `x`, the flag holds.
-use Prim.Native.Nat.{ℕ}
-use mathlib.Core.Path.{◌≡◌, sym, ◌∙◌}
-use mathlib.Core.Logic.{◌≢◌}
-use native.Mathlib.Omega.{arith}
-use Rattle.blocks.specs.Blocks.{every_more}
+-- No byte of the block is `x`.
+use Rattle.std.proofs.Common.{arith, rules, ◌<◌, ◌+◌, ◌-◌, ◌≢◌, length, get_or, take, drop, length-take, length-drop, ◌∙◌}
+use Rattle.blocks.proofs.Pieces.{byte_of_part}
 use Rattle.blocks.proofs.lacks.Goals as goal
-use Rattle.blocks.proofs.lacks.Goals.{else-s-at, then-s-at}
-
-pub loop-i-init : goal.loop-i-init
-loop-i-init c = (omega arith, λ e i k. absurd (omega arith))
-
-pub loop-i-preserved : goal.loop-i-preserved
-loop-i-preserved c =
-    let a = c.args in
-    (omega arith, λ e. elim c.if-s-at.branch [ then-s-at w ↦ let z : ◌≡◌ {A = ℕ} 0 1 = cc in absurd (omega arith) | else-s-at w ↦ every_more (λ b. b ≢ a.x) a.s.now a.at c.loop-i.i (c.loop-i.invariant.1 (sym w.none-is ∙ e)) w.if-s-at.false ])
 
 pub returns : goal.returns
-returns c = λ e i k. c.loop-i.invariant.1 e i (omega arith)
+returns c = λ e i k.
+    let s = c.args.s.now in
+    let n = c.args.at + 16 - c.args.at in
+    let block = take n (drop c.args.at s) in
+    let inside : i < length block = simp (length-take, length-drop) (omega arith) in
+    let none : get_or block i 0 ≢ c.args.x = let p = c.every.ensures e i inside in search rules in
+    λ q. none (byte_of_part s c.args.at n i (omega arith) ∙ q)

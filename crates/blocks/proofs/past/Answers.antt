@@ -1,29 +1,10 @@
--- `blocks::past` meets its contract: at each turn the bytes passed and those before the first `x` of the rest make those of the whole.
-use native.Mathlib.Omega.{arith}
-use Rattle.blocks.specs.Blocks.{passed}
+-- No byte that was passed is `x`.
+use Rattle.std.proofs.Common.{arith, rules, ◌<◌, ◌≤◌, ◌≢◌, ℕ, get_or}
+use Rattle.blocks.proofs.Pieces.{passed_by}
 use Rattle.blocks.proofs.past.Goals as goal
 
-pub loop-at-init : goal.loop-at-init
-loop-at-init c = omega arith
-
-pub overflow_sub-s : goal.overflow_sub-s
-overflow_sub-s c = omega arith
-
-pub lacks-requires : goal.lacks-requires
-lacks-requires c = omega arith
-
-pub returns-then-not-lacks : goal.returns-then-not-lacks
-returns-then-not-lacks c = c.loop-at.invariant
-
-pub overflow_add-at : goal.overflow_add-at
-overflow_add-at c = omega arith
-
-pub loop-at-smaller : goal.loop-at-smaller
-loop-at-smaller c = omega arith
-
-pub loop-at-preserved : goal.loop-at-preserved
-loop-at-preserved c = let a = c.args in
-    omega (arith, passed a.s.now a.x c.loop-at.at 16 (omega arith) (c.lacks.ensures c.if-not-lacks.false))
-
 pub returns : goal.returns
-returns c = c.loop-at.invariant
+returns c =
+    let s = c.args.s.now in
+    let none : (k : ℕ) → c.args.from ≤ k → k < c.past_while.result → get_or s k 0 ≢ c.args.x = λ k low high. let p = c.past_while.ensures.passed k low high in search rules in
+    (omega arith, passed_by s c.args.x c.args.from c.past_while.result c.past_while.ensures.low c.past_while.ensures.high none, omega arith)
