@@ -4,60 +4,106 @@
 
 ghost use Rattle.std.specs.Prelude.{◌≡◌};
 ghost use Rattle.text_rules.specs.Classes.{class_of, is_letter, is_space, is_word};
-ghost use Rattle.classes.specs.Lent.{IsTable};
+ghost use Rattle.classes.specs.Lent.{IsTable, number_of};
 
-// 3: an ASCII letter or `_`. 2: a digit. 1: ASCII whitespace. 0: any other byte.
-const CLASSES: [u8; 256] = [
-    0, 0, 0, 0, 0, 0, 0, 0, 0, 1, 1, 0, 1, 1, 0, 0, 0, 0, 0, 0, 0, 0, 0, 0, 0, 0, 0, 0, 0, 0, 0, 0,
-    1, 0, 0, 0, 0, 0, 0, 0, 0, 0, 0, 0, 0, 0, 0, 0, 2, 2, 2, 2, 2, 2, 2, 2, 2, 2, 0, 0, 0, 0, 0, 0,
-    0, 3, 3, 3, 3, 3, 3, 3, 3, 3, 3, 3, 3, 3, 3, 3, 3, 3, 3, 3, 3, 3, 3, 3, 3, 3, 3, 0, 0, 0, 0, 3, // _
-    0, 3, 3, 3, 3, 3, 3, 3, 3, 3, 3, 3, 3, 3, 3, 3, 3, 3, 3, 3, 3, 3, 3, 3, 3, 3, 3, 0, 0, 0, 0, 0,
-    0, 0, 0, 0, 0, 0, 0, 0, 0, 0, 0, 0, 0, 0, 0, 0, 0, 0, 0, 0, 0, 0, 0, 0, 0, 0, 0, 0, 0, 0, 0, 0,
-    0, 0, 0, 0, 0, 0, 0, 0, 0, 0, 0, 0, 0, 0, 0, 0, 0, 0, 0, 0, 0, 0, 0, 0, 0, 0, 0, 0, 0, 0, 0, 0,
-    0, 0, 0, 0, 0, 0, 0, 0, 0, 0, 0, 0, 0, 0, 0, 0, 0, 0, 0, 0, 0, 0, 0, 0, 0, 0, 0, 0, 0, 0, 0, 0,
-    0, 0, 0, 0, 0, 0, 0, 0, 0, 0, 0, 0, 0, 0, 0, 0, 0, 0, 0, 0, 0, 0, 0, 0, 0, 0, 0, 0, 0, 0, 0, 0,
-];
-
-// The table, to be lent to a loop.
-pub fn table() -> [u8; 256]
-    ensures { IsTable result }
-{
-    CLASSES
+// What a byte is among those of a word.
+#[derive(Clone, Copy, PartialEq, Eq, Debug)]
+pub enum Kind {
+    // Any other byte.
+    Other,
+    // ASCII whitespace.
+    Space,
+    // A digit.
+    Digit,
+    // An ASCII letter or `_`.
+    Letter,
 }
 
-// The class of a byte, by a lent table.
-pub fn class_in(table: &[u8; 256], b: u8) -> u8
-    requires { IsTable table.now }
-    ensures { result ≡ class_of b }
-{
-    table[b as usize]
+const O: Kind = Kind::Other;
+
+const S: Kind = Kind::Space;
+
+const D: Kind = Kind::Digit;
+
+const L: Kind = Kind::Letter;
+
+const KINDS: [Kind; 256] = [
+    O, O, O, O, O, O, O, O, O, S, S, O, S, S, O, O, O, O, O, O, O, O, O, O, O, O, O, O, O, O, O, O,
+    S, O, O, O, O, O, O, O, O, O, O, O, O, O, O, O, D, D, D, D, D, D, D, D, D, D, O, O, O, O, O, O,
+    O, L, L, L, L, L, L, L, L, L, L, L, L, L, L, L, L, L, L, L, L, L, L, L, L, L, L, O, O, O, O, L, // _
+    O, L, L, L, L, L, L, L, L, L, L, L, L, L, L, L, L, L, L, L, L, L, L, L, L, L, L, O, O, O, O, O,
+    O, O, O, O, O, O, O, O, O, O, O, O, O, O, O, O, O, O, O, O, O, O, O, O, O, O, O, O, O, O, O, O,
+    O, O, O, O, O, O, O, O, O, O, O, O, O, O, O, O, O, O, O, O, O, O, O, O, O, O, O, O, O, O, O, O,
+    O, O, O, O, O, O, O, O, O, O, O, O, O, O, O, O, O, O, O, O, O, O, O, O, O, O, O, O, O, O, O, O,
+    O, O, O, O, O, O, O, O, O, O, O, O, O, O, O, O, O, O, O, O, O, O, O, O, O, O, O, O, O, O, O, O,
+];
+
+// The class of each byte, at its number.
+#[derive(Drop)]
+pub struct Classes {
+    kinds: [Kind; 256],
+    ghost right: { IsTable kinds },
+}
+
+// The table, to be lent to a loop.
+pub fn table() -> Classes {
+    Classes { kinds: KINDS }
+}
+
+impl Classes {
+    // The class of a byte.
+    pub fn class(&self, b: u8) -> Kind
+        ensures { number_of result ≡ class_of b }
+    {
+        self.kinds[usize::from(b)]
+    }
+
+    // An ASCII letter, a digit or `_`.
+    pub fn is_word(&self, b: u8) -> bool
+        ensures { result ≡ is_word b }
+    {
+        matches!(self.class(b), Kind::Digit | Kind::Letter)
+    }
+
+    // An ASCII letter or `_`, which a word may begin with.
+    pub fn is_letter(&self, b: u8) -> bool
+        ensures { result ≡ is_letter b }
+    {
+        matches!(self.class(b), Kind::Letter)
+    }
+
+    // Space, tab, LF, FF or CR.
+    pub fn is_space(&self, b: u8) -> bool
+        ensures { result ≡ is_space b }
+    {
+        matches!(self.class(b), Kind::Space)
+    }
 }
 
 // The class of a byte.
-pub fn class(b: u8) -> u8
-    ensures { result ≡ class_of b }
+pub fn class(b: u8) -> Kind
+    ensures { number_of result ≡ class_of b }
 {
-    let t = table();
-    class_in(&t, b)
+    table().class(b)
 }
 
 // An ASCII letter, a digit or `_`.
 pub fn is_word(b: u8) -> bool
     ensures { result ≡ is_word b }
 {
-    2 <= class(b)
+    table().is_word(b)
 }
 
 // An ASCII letter or `_`, which a word may begin with.
 pub fn is_letter(b: u8) -> bool
     ensures { result ≡ is_letter b }
 {
-    class(b) == 3
+    table().is_letter(b)
 }
 
 // Space, tab, LF, FF or CR.
 pub fn is_space(b: u8) -> bool
     ensures { result ≡ is_space b }
 {
-    class(b) == 1
+    table().is_space(b)
 }

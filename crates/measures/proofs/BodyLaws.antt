@@ -11,8 +11,7 @@ use lib.ListN.{drop, get_or, length, length-drop}
 use lib.Seq.{drop-drop, get_or-drop}
 use borrow.Author.Tests.{eq-eqb, ne_eqb}
 use Rattle.text_rules.specs.Bytes.{among, ascii, if◌then◌otherwise◌, same}
-use Rattle.text_rules.specs.Classes.{ampersand, angle_close, bar, brace_close, brace_open, class_of, equals, is_letter, is_word, lf, question}
-use Rattle.text_rules.proofs.ClassesLaws.{class_letter}
+use Rattle.text_rules.specs.Classes.{ampersand, angle_close, bar, brace_close, brace_open, equals, is_letter, is_word, lf, question}
 use Rattle.text_rules.proofs.ScanLaws.{head_at, split}
 use Rattle.text_rules.specs.Search.{count_after, opens, part, run}
 use Rattle.source_rules.specs.Brackets.{depth_after}
@@ -72,14 +71,6 @@ module _ (s : List ℕ) (at : ℕ) (h : at < length s) where
 
     pub cyclomatic-same : decides (drop at s) ≡ false → cyclomatic_from n 0 (drop at s) ≡ cyclomatic_from n 0 (drop (at + piece_length (drop at s)) s)
     cyclomatic-same e = cyclomatic_jump n ∙ rw e
-
--- what the class of a byte tells of a letter
-module _ (b k : ℕ) (e : k ≡ class_of b) where
-  pub letter_class : k ≡ 3 → is_letter b ≡ true
-  letter_class t = sym (class_letter b) ∙ eq-eqb (class_of b) 3 (sym e ∙ t)
-
-  pub other_class : k ≢ 3 → is_letter b ≡ false
-  other_class n = sym (class_letter b) ∙ ne_eqb (class_of b) 3 (λ z. n (e ∙ z))
 
 -- the words that decide, tried one after another
 module _ (w : List ℕ) where

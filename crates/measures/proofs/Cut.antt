@@ -11,10 +11,11 @@ use native.Mathlib.Omega.{arith}
 use lib.Dec.{eqb, leb}
 use lib.ListN.{drop, get_or, length, length-drop, length-take, take}
 use lib.Seq.{drop-drop, get_or-take, take-nil, take-take}
-use borrow.Author.Tests.{eqb-true, le-leb, ne_eqb}
+use borrow.Author.Tests.{eqb-true, ne_eqb}
 use Rattle.text_rules.specs.Bytes.{All}
 use Rattle.text_rules.specs.BytesLaws.{All-map, and_right, or_cases, true_false, whether}
 use Rattle.text_rules.specs.Classes.{ampersand, angle_close, bar, brace_close, brace_open, class_of, equals, is_letter, is_word, lf}
+use Rattle.text_rules.proofs.ClassesLaws.{class_letter}
 use Rattle.text_rules.proofs.ScanLaws.{head_at, split}
 use Rattle.text_rules.specs.Search.{count_after, opens, run}
 use Rattle.text_rules.proofs.SearchLaws.{run-all}
@@ -65,8 +66,8 @@ word_inner b e = (λ z. other brace_open refl z, λ z. other brace_close refl z,
     other x n z = true_false (is_word x) (ap is_word (sym z) ∙ e) n
 
 -- the first byte of a word is one
-pub letter_inner : (b k : ℕ) → k ≡ class_of b → k ≡ 3 → Inner b
-letter_inner b k e t = word_inner b (ap (leb 2) (sym e) ∙ le-leb 2 k (omega arith))
+pub letter_inner : (b : ℕ) → is_letter b ≡ true → Inner b
+letter_inner b t = word_inner b (ap (leb 2) (eqb-true (class_of b) 3 (class_letter b ∙ t)))
 
 pair-inner : (b c : ℕ) (s : List ℕ) → is_pair (b ∷ c ∷ s) ≡ true → Inner c
 unfolding is_pair opens

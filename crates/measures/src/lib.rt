@@ -8,8 +8,9 @@ ghost use Rattle.text_rules.specs.Bytes.{among, ascii, if◌then◌otherwise◌,
 ghost use Rattle.text_rules.specs.Classes.{brace_open, is_letter, is_word};
 ghost use Rattle.text_rules.specs.Search.{run};
 ghost use Rattle.source_rules.specs.Measures.{cyclomatic_of, is_pair};
-ghost use Rattle.classes.specs.Lent.{IsTable};
 ghost use Rattle.measures.specs.Walks.{Measured, PieceAt, Shaped, WalkedFrom};
+
+use classes::Classes;
 
 #[derive(Clone, Copy)]
 struct Shape {
@@ -49,13 +50,13 @@ fn shape_of(body: &[u8]) -> Shape
 }
 
 // The place behind the word that stands at a place.
-fn word_end(table: &[u8; 256], s: &[u8], from: usize) -> usize
-    requires { IsTable table.now × (from ≤ length s.now) }
+fn word_end(table: &Classes, s: &[u8], from: usize) -> usize
+    requires { from ≤ length s.now }
     ensures { (result ≡ from + run is_word (drop from s.now)) × (result ≤ length s.now) }
 {
     let mut at = from;
     while at < s.len() {
-        if classes::class_in(table, s[at]) < 2 {
+        if !table.is_word(s[at]) {
             return at;
         }
         at += 1;
@@ -120,8 +121,8 @@ struct Piece {
 }
 
 // The word at a place where a letter stands.
-fn word_at(table: &[u8; 256], s: &[u8], at: usize) -> Piece
-    requires { IsTable table.now × (at < length s.now) × (is_letter (get_or s.now at 0) ≡ true) }
+fn word_at(table: &Classes, s: &[u8], at: usize) -> Piece
+    requires { (at < length s.now) × (is_letter (get_or s.now at 0) ≡ true) }
     ensures { PieceAt s.now at result }
 {
     let end = word_end(table, s, at);
@@ -137,7 +138,7 @@ fn mark_at(s: &[u8], at: usize) -> Piece
     ensures { PieceAt s.now at result }
 {
     let b = s[at];
-    if is_pair(b, utf8::byte(s, at + 1)) {
+    if is_pair(b, seek::byte(s, at + 1)) {
         return Piece {
             end: at + 2,
             decides: true,
@@ -150,11 +151,11 @@ fn mark_at(s: &[u8], at: usize) -> Piece
 }
 
 // The piece at a place.
-fn piece_at(table: &[u8; 256], body: &[u8], at: usize) -> Piece
-    requires { IsTable table.now × (at < length body.now) }
+fn piece_at(table: &Classes, body: &[u8], at: usize) -> Piece
+    requires { (at < length body.now) }
     ensures { PieceAt body.now at result }
 {
-    if classes::class_in(table, body[at]) == 3 {
+    if table.is_letter(body[at]) {
         return word_at(table, body, at);
     }
     mark_at(body, at)
@@ -247,7 +248,7 @@ pub fn walk_from(s: &[u8], from: usize) -> BodyAt
         let b = s[at];
         if b == b' ' {
             at += 1;
-        } else if classes::class_in(&table, b) == 3 {
+        } else if table.is_letter(b) {
             let p = word_at(&table, s, at);
             at = p.end;
             n = more_one(n, p.decides);

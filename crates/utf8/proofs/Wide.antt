@@ -9,7 +9,6 @@ use native.Mathlib.Omega.{arith}
 use lib.Dec.{lit≤, ltb}
 use lib.ListN.{get_or-eq_default, drop, drop_of_length-le, get_or, length}
 use borrow.Author.Tests.{leb-true, lt-leb, ltb-false, ltb-true}
-use Rattle.blocks.specs.Blocks.{Below}
 use Rattle.text_rules.specs.BytesLaws.{and_left, whether}
 use Rattle.text_rules.proofs.ScanLaws.{split}
 use Rattle.text_rules.proofs.SearchLaws.{in_text}
@@ -41,11 +40,17 @@ unfolding is_utf8
 ascii-step s at h a = ap (well_formed_after []) (split s at h) ∙ ascii-first (get_or s at 0) (drop (at + 1) s) a
 
 -- so are several
-pub ascii_steps : (s : List ℕ) (at many : ℕ) → at + many ≤ length s → Below 128 s at many → is_utf8 (drop at s) ≡ is_utf8 (drop (at + many) s)
-ascii_steps s at zero h b = rw (add-zero at)
-ascii_steps s at (suc many) h b =
-    let e : at + many + 1 ≡ at + suc many = omega arith in
-    ascii_steps s at many (omega arith) (λ i k. b i (omega arith)) ∙ ascii-step s (at + many) (omega arith) (b many (omega arith)) ∙ ap (λ j. is_utf8 (drop j s)) e
+pub ascii_steps : (s : List ℕ) (from many : ℕ) → from + many ≤ length s → ((k : ℕ) → from ≤ k → k < from + many → get_or s k 0 < 128)
+    → is_utf8 (drop from s) ≡ is_utf8 (drop (from + many) s)
+ascii_steps s from zero h b = rw (add-zero from)
+ascii_steps s from (suc many) h b =
+    let e : from + many + 1 ≡ from + suc many = omega arith in
+    ascii_steps s from many (omega arith) (λ k l m. b k l (omega arith)) ∙ ascii-step s (from + many) (omega arith) (b (from + many) (omega arith) (omega arith)) ∙ ap (λ j. is_utf8 (drop j s)) e
+
+pub ascii_to : (s : List ℕ) (from end : ℕ) → from ≤ end → end ≤ length s → ((k : ℕ) → from ≤ k → k < end → get_or s k 0 < 128) → is_utf8 (drop from s) ≡ is_utf8 (drop end s)
+ascii_to s from end l h b =
+    let e : from + (end - from) ≡ end = omega arith in
+    ascii_steps s from (end - from) (omega arith) (λ k m n. b k m (omega arith)) ∙ ap (λ j. is_utf8 (drop j s)) e
 
 pub utf8-end : (s : List ℕ) (at : ℕ) → length s ≤ at → is_utf8 (drop at s) ≡ true
 unfolding is_utf8 well_formed_after

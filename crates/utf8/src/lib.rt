@@ -114,14 +114,7 @@ fn ascii_blocks(s: &[u8], from: usize) -> usize
     requires { from ≤ length s.now }
     ensures { (from ≤ result) × (result ≤ length s.now) × (is_utf8 (drop from s.now) ≡ is_utf8 (drop result s.now)) }
 {
-    let mut at = from;
-    while blocks::WIDTH <= s.len() - at {
-        if !blocks::is_ascii(s, at) {
-            return at;
-        }
-        at += blocks::WIDTH;
-    }
-    at
+    blocks::past_ascii(s, from)
 }
 
 // A place in a text, and the last place where a block was asked.

@@ -13,7 +13,7 @@ unfolding cyclomatic_of
 loop-at-init c = (omega arith, omega arith, refl)
 
 pub piece_at-p-requires : goal.piece_at-p-requires
-piece_at-p-requires c = (c.table-table.ensures, omega arith)
+piece_at-p-requires c = omega arith
 
 pub overflow_add-n : goal.overflow_add-n
 overflow_add-n c = omega arith

@@ -5,7 +5,7 @@ use native.Mathlib.Omega.{arith}
 use lib.ListN.{get_or}
 use Rattle.text_rules.specs.Bytes.{if◌then◌otherwise◌}
 use Rattle.measures.specs.Walks.{WalkedFrom}
-use Rattle.measures.proofs.BodyLaws.{letter_class, other_class, piece-room}
+use Rattle.measures.proofs.BodyLaws.{piece-room}
 use Rattle.measures.proofs.Cut.{letter_inner}
 use Rattle.measures.proofs.Walking.{Walking, closed, cyclomatic-found, ended, found, line, lines-found, nesting-found, opened, piece, spaced, start}
 use Rattle.measures.proofs.walk_from.Goals as goal
@@ -31,29 +31,26 @@ loop-at-preserved-then-b-eq32 c =
     let a = c.args in
     spaced a.s.now a.from c.loop-at.depth c.loop-at.nesting c.loop-at.lines c.loop-at.n c.loop-at.at c.loop-at.invariant (omega arith) c.if-b-eq32.true
 
-pub class_in-requires : goal.class_in-requires
-class_in-requires c = c.table-table.ensures
-
 pub word_at-p-requires : goal.word_at-p-requires
 word_at-p-requires c =
     let s = c.args.s.now in
-    (c.table-table.ensures, omega arith, letter_class (get_or s c.loop-at.at 0) c.class_in.result c.class_in.ensures c.if-class_in-eq3.true)
+    (omega arith, sym c.is_letter.ensures ∙ c.if-is_letter.true)
 
 pub more_one-n-requires : goal.more_one-n-requires
 more_one-n-requires c = omega arith
 
-pub loop-at-smaller-then-class_in-eq3 : goal.loop-at-smaller-then-class_in-eq3
-loop-at-smaller-then-class_in-eq3 c =
+pub loop-at-smaller-then-is_letter : goal.loop-at-smaller-then-is_letter
+loop-at-smaller-then-is_letter c =
     let p = c.word_at-p in
     let s = c.args.s.now in
     omega (arith, p.ensures.end_is, piece-room s c.loop-at.at (omega arith))
 
-pub loop-at-preserved-then-class_in-eq3 : goal.loop-at-preserved-then-class_in-eq3
-loop-at-preserved-then-class_in-eq3 c =
+pub loop-at-preserved-then-is_letter : goal.loop-at-preserved-then-is_letter
+loop-at-preserved-then-is_letter c =
     let p = c.word_at-p in
     let a = c.args in
     let s = a.s.now in
-    let i = letter_inner (get_or s c.loop-at.at 0) c.class_in.result c.class_in.ensures c.if-class_in-eq3.true in
+    let i = letter_inner (get_or s c.loop-at.at 0) (sym c.is_letter.ensures ∙ c.if-is_letter.true) in
     let m = c.more_one-n.ensures ∙ ap (λ b. if b then suc c.loop-at.n otherwise c.loop-at.n) p.ensures.decides-is in
     piece s a.from c.loop-at.depth c.loop-at.nesting c.loop-at.lines c.loop-at.n c.loop-at.at c.loop-at.invariant (omega arith)
     p.result.end c.more_one-n.result i p.ensures.end_is m
@@ -123,7 +120,7 @@ loop-at-preserved-then-b-eq125 c =
 pub mark_at-p-requires : goal.mark_at-p-requires
 mark_at-p-requires c =
     let s = c.args.s.now in
-    (omega arith, other_class (get_or s c.loop-at.at 0) c.class_in.result c.class_in.ensures c.if-class_in-eq3.false)
+    (omega arith, sym c.is_letter.ensures ∙ c.if-is_letter.false)
 
 pub more_one-n-requires-else-b-eq125 : goal.more_one-n-requires-else-b-eq125
 more_one-n-requires-else-b-eq125 c = omega arith

@@ -7,7 +7,7 @@ pub returns : goal.returns
 returns c =
     let a = c.args in
     let s = a.s.now in
-    let l = c.requires.2 in
+    let l = c.requires.1 in
     record {
       end_is = word_length s a.at c.word_end-end.result c.word_end-end.ensures.0 l;
       decides-is = c.decides_word.ensures ∙ word_decides s a.at c.word_end-end.result c.word_end-end.ensures.0 l;

@@ -1,8 +1,6 @@
 -- The bytes passed and the run of the rest make the run of the whole.
-use mathlib.Core.Path.{◌∙◌, ap, sym}
+use mathlib.Core.Path.{◌∙◌, sym}
 use native.Mathlib.Omega.{arith}
-use borrow.Author.Tests.{le-leb, lt-leb}
-use lib.Dec.{leb}
 use Rattle.text_rules.specs.Classes.{is_word}
 use Rattle.text_rules.proofs.ScanLaws.{run_end, run_more, run-stop}
 use Rattle.measures.proofs.word_end.Goals as goal
@@ -13,9 +11,9 @@ loop-at-init c = omega arith
 pub bounds-s-at : goal.bounds-s-at
 bounds-s-at c = omega arith
 
-pub returns-then-class_in-lt2 : goal.returns-then-class_in-lt2
-returns-then-class_in-lt2 c = let s = c.args.s.now in
-    omega (arith, run-stop s c.loop-at.at (omega arith) is_word (ap (leb 2) (sym c.class_in.ensures) ∙ lt-leb 2 _ c.if-class_in-lt2.true))
+pub returns-then-not-is_word : goal.returns-then-not-is_word
+returns-then-not-is_word c = let s = c.args.s.now in
+    omega (arith, run-stop s c.loop-at.at (omega arith) is_word (sym c.is_word.ensures ∙ c.if-not-is_word.true))
 
 pub overflow_add-at : goal.overflow_add-at
 overflow_add-at c = omega arith
@@ -25,7 +23,7 @@ loop-at-smaller c = omega arith
 
 pub loop-at-preserved : goal.loop-at-preserved
 loop-at-preserved c = let s = c.args.s.now in
-    omega (arith, run_more s c.loop-at.at (omega arith) is_word (ap (leb 2) (sym c.class_in.ensures) ∙ le-leb 2 _ c.if-class_in-lt2.false))
+    omega (arith, run_more s c.loop-at.at (omega arith) is_word (sym c.is_word.ensures ∙ c.if-not-is_word.false))
 
 pub returns : goal.returns
 returns c = let s = c.args.s.now in
