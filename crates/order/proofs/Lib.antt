@@ -1,3 +1,0 @@
--- The laws that the functions cite.
-mod Ends
-mod Steps
