@@ -13,7 +13,7 @@ ghost use Rattle.bodies.specs.Quiet.{AllQuiet, Quiet, Skips};
 ghost use Rattle.bodies.specs.Settling.{Behind, Settled};
 ghost use Rattle.bodies.specs.Walking.{Adds, Begins, Ended, Ends, Fresh, Kept, Rest, Told};
 
-use chunks::{Chunk, Known};
+use chunks::Chunk;
 
 // The most searches.
 const MOST: usize = 2048;
@@ -184,8 +184,8 @@ fn note(w: Walk, m: &mut [u32; 2050], links: &mut [u16; 2048], heads: &mut [u16;
         opened: w.opened,
         closed: w.closed,
         pending: w.pending + 1,
-        low: chunks::least(w.low, level),
-        high: chunks::most(w.high, level),
+        low: w.low.min(level),
+        high: w.high.max(level),
     }
 }
 
@@ -501,8 +501,8 @@ fn onward(
 {
     let known = chunks::chunk_at(s, t, w.at);
     match known {
-        Known::Sums(c) => at_chunk(c, s, starts, many, w, m, links, heads, counts, sizes),
-        Known::Unknown => read_on(s, starts, many, w, m, links, heads, counts, sizes),
+        Some(c) => at_chunk(c, s, starts, many, w, m, links, heads, counts, sizes),
+        None => read_on(s, starts, many, w, m, links, heads, counts, sizes),
     }
 }
 

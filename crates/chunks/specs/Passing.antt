@@ -1,17 +1,11 @@
 -- What the bytes from one place to another do to a search that passes them whole.
-use Rattle.std.specs.Prelude.{ℕ, ◌+◌, ◌-◌, ◌≤◌, ◌<◌, ◌≡◌, ◌⊎◌, List, length, drop}
+use Rattle.std.specs.Prelude.{ℕ, ◌+◌, ◌-◌, ◌≤◌, ◌<◌, ◌≡◌, ◌⊎◌, List, length, drop, Option, Some, None}
 use Rattle.text_rules.specs.Classes.{round_close, round_open, square_close, square_open}
 use Rattle.source_rules.specs.Brackets.{partner}
 use Rattle.source_rules.specs.Finding.{body_at}
 use Rattle.blocks.specs.Blocks.{count_from}
 use Rattle.flat.specs.Body.{Counted, body_from}
 use Rattle.flat.specs.declared.Counts.{Counts}
-use Rattle.chunks.specs.declared.BodyPast.{BodyPast}
-use Rattle.chunks.specs.declared.BodyPast.TheVariants.{Further, Held}
-use Rattle.chunks.specs.declared.Known.{Known}
-use Rattle.chunks.specs.declared.Known.TheVariants.{Sums, Unknown}
-use Rattle.chunks.specs.declared.Past.{Past}
-use Rattle.chunks.specs.declared.Past.TheVariants.{Depth, Met}
 use Rattle.chunks.specs.declared.Round.{Round}
 use Rattle.chunks.specs.declared.Chunk.{Chunk}
 
@@ -40,19 +34,19 @@ pub record Summary (s : List ℕ) (at : ℕ) (c : Chunk) : Type 0 where
   pub low-most : c.low ≤ 65535
   pub high-most : c.high ≤ 65535
 
-abbrev pub TellsChunk : List ℕ → (at : ℕ) → Known → Type 0
-TellsChunk s at (Sums c) = Summary s at c
-TellsChunk s at Unknown = ℕ
+abbrev pub TellsChunk : List ℕ → (at : ℕ) → Option Chunk → Type 0
+TellsChunk s at (Some c) = Summary s at c
+TellsChunk s at None = ℕ
 
 -- a round bracket with so many open inside it, and one with more, are sought on behind the chunk
-abbrev pub TellsDepth : List ℕ → (at depth : ℕ) → Past → Type 0
-TellsDepth s at depth (Depth d) =
+abbrev pub TellsDepth : List ℕ → (at depth : ℕ) → Option ℕ → Type 0
+TellsDepth s at depth (Some d) =
     (at + 4096 ≤ length s)
     × (d ≤ at + 4096)
     × ((more : ℕ) → partner round_open round_close (depth + more) at (drop at s) ≡ partner round_open round_close (d + more) (at + 4096) (drop (at + 4096) s))
-TellsDepth s at depth Met = ℕ
+TellsDepth s at depth None = ℕ
 
 -- a search for a body goes on behind the chunk with other counts
-abbrev pub TellsCounts : List ℕ → (at : ℕ) → Counts → BodyPast → Type 0
-TellsCounts s at n (Further m) = (at + 4096 ≤ length s) × (body_from s at n ≡ body_from s (at + 4096) m) × Counted m (at + 4096)
-TellsCounts s at n Held = ℕ
+abbrev pub TellsCounts : List ℕ → (at : ℕ) → Counts → Option Counts → Type 0
+TellsCounts s at n (Some m) = (at + 4096 ≤ length s) × (body_from s at n ≡ body_from s (at + 4096) m) × Counted m (at + 4096)
+TellsCounts s at n None = ℕ

@@ -1,5 +1,5 @@
 -- What the sums of a chunk tell of a search that passes it.
-use Rattle.std.specs.Prelude.{ℕ, ◌+◌, ◌-◌, ◌≤◌, ◌≡◌, List, length, drop}
+use Rattle.std.specs.Prelude.{ℕ, ◌+◌, ◌-◌, ◌≤◌, ◌≡◌, List, length, drop, Some}
 use Rattle.std.proofs.Common.{ap, ◌∙◌, arith}
 use Rattle.text_rules.specs.Classes.{round_close, round_open, square_close, square_open}
 use Rattle.source_rules.specs.Brackets.{partner}
@@ -8,13 +8,11 @@ use Rattle.flat.specs.Body.{Counted}
 use Rattle.flat.specs.declared.Counts.{Counts}
 use Rattle.chunks.specs.Passing.{Misses, Summary, TellsCounts, TellsDepth}
 use Rattle.chunks.specs.Table.{Entry}
-use Rattle.chunks.specs.declared.BodyPast.TheVariants.{Further}
-use Rattle.chunks.specs.declared.Past.TheVariants.{Depth}
 use Rattle.chunks.specs.declared.Chunk.{Chunk}
 
 -- a round bracket with as many open inside it as are closed in the chunk is sought on behind it
 pub round-further : (s : List ℕ) (at : ℕ) (sums : ℕ → ℕ) (depth : ℕ) → Entry s at sums → at + 4096 ≤ length s → depth ≤ at → sums 0 ≤ depth
-    → TellsDepth s at depth (Depth (depth - sums 0 + sums 1))
+    → TellsDepth s at depth (Some (depth - sums 0 + sums 1))
 round-further s at sums depth h l d c = (
   l,
   omega (arith, h.opened-most, d, c),
@@ -44,7 +42,7 @@ counted-further n at to h k =
 
 -- a search for a body that does not end in a chunk goes on behind it
 pub body-further : (s : List ℕ) (at : ℕ) (c : Chunk) (n : Counts) → Summary s at c → Counted n at → Misses c n.angle n.opened n.closed
-    → TellsCounts s at n (Further (counts_past c n))
+    → TellsCounts s at n (Some (counts_past c n))
 body-further s at c n h k m =
     let b = brackets_most s at c h in (
       h.inside,

@@ -1,6 +1,6 @@
 -- The sums of a text's chunks. The first number counts the searches that went far; from the sixteenth on the others are the sums: nine rows, each with a
 -- number for every chunk.
-use Rattle.std.specs.Prelude.{ℕ, zero, suc, ◌+◌, ◌*◌, ◌/◌, ◌≤◌, ◌<◌, ◌≡◌, refl, ◌≢◌, List, [], ◌∷◌, eqb, length, get_or, set}
+use Rattle.std.specs.Prelude.{ℕ, zero, suc, ◌+◌, ◌*◌, ◌/◌, ◌≤◌, ◌<◌, ◌≡◌, refl, ◌≢◌, List, [], ◌∷◌, Option, Some, None, eqb, length, get_or, set}
 use Rattle.std.proofs.Common.{ap, subst, sym, ◌∙◌, inl, inr, arith, eqb-true, length-set, get_or-set_other, get_or-set_same}
 use Rattle.std.proofs.lemmas.Bool.{eqb-false}
 use Rattle.text_rules.specs.BytesLaws.{whether}
@@ -43,6 +43,11 @@ pub record Begins (s t : List ℕ) (at : ℕ) : Type 0 where
   pub few : at / 4096 < 4096
   pub edge : at / 4096 * 4096 ≡ at
   pub inside : at + 4096 ≤ length s
+
+-- what is told of the chunk at a place: its index, where it has sums
+abbrev pub TellsIndex : (s t : List ℕ) (at : ℕ) → Option ℕ → Type 0
+TellsIndex s t at (Some j) = (j ≡ at / 4096) × Begins s t at
+TellsIndex s t at None = ℕ
 
 -- its sums tell of it
 pub told : (s t : List ℕ) (at : ℕ) → Summed s t → Begins s t at → Entry s at (sums_of t (at / 4096))

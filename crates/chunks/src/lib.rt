@@ -7,8 +7,8 @@ ghost use Rattle.text_rules.specs.Classes.{angle_close, brace_open, semicolon};
 ghost use Rattle.flat.specs.Body.{Counted};
 ghost use Rattle.chunks.specs.Passing.{Misses, PassesBody, PassesRound, TellsChunk, TellsCounts, TellsDepth};
 ghost use Rattle.chunks.specs.PastLaws.{counts_past};
-ghost use Rattle.chunks.specs.Sums.{Behind, Within, more};
-ghost use Rattle.chunks.specs.Table.{Begins, Summed, chunk_of, puts, sums_of};
+ghost use Rattle.chunks.specs.Sums.{Behind, Within};
+ghost use Rattle.chunks.specs.Table.{Summed, TellsIndex, chunk_of, puts, sums_of};
 
 use flat::Counts;
 
@@ -50,18 +50,12 @@ fn round_sum(s: &[u8], from: usize, to: usize) -> Round
 {
     let mut closed: usize = 0;
     let mut opened: usize = 0;
-    let mut at = from;
-    while at < to {
-        let b = s[at];
-        at += 1;
-        if b == b'(' {
-            opened += 1;
-        } else if b == b')' {
-            if 0 < opened {
-                opened -= 1;
-            } else {
-                closed += 1;
-            }
+    for at in from..to {
+        match s[at] {
+            b'(' => opened += 1,
+            b')' if 0 < opened => opened -= 1,
+            b')' => closed += 1,
+            _ => {}
         }
     }
     Round { closed, opened }
@@ -87,21 +81,12 @@ fn closed_angle(c: Chunk) -> Chunk
     requires { Within 4095 c }
     ensures { Behind angle_close c result }
 {
-    let mut downs = c.downs;
-    let mut ups = c.ups;
-    if 0 < ups {
-        ups -= 1;
-    } else {
-        downs += 1;
-    }
-    Chunk {
-        downs,
-        ups,
-        opened: c.opened,
-        closed: c.closed,
-        low: c.low,
-        high: c.high,
-        ended: c.ended,
+    match c.ups.checked_sub(1) {
+        Some(ups) => Chunk { ups, ..c },
+        None => Chunk {
+            downs: c.downs + 1,
+            ..c
+        },
     }
 }
 
@@ -109,13 +94,13 @@ fn closed_angle(c: Chunk) -> Chunk
 pub fn least(a: usize, b: usize) -> usize
     ensures { result ≡ min a b }
 {
-    if a < b { a } else { b }
+    a.min(b)
 }
 
 pub fn most(a: usize, b: usize) -> usize
     ensures { result ≡ max a b }
 {
-    if a < b { b } else { a }
+    a.max(b)
 }
 
 // The sums behind a `{` or `;`.
@@ -128,29 +113,10 @@ fn stopped(c: Chunk) -> Chunk
     }
     let level = BASE + c.opened - c.closed;
     Chunk {
-        downs: c.downs,
-        ups: c.ups,
-        opened: c.opened,
-        closed: c.closed,
-        low: least(c.low, level),
-        high: most(c.high, level),
+        low: c.low.min(level),
+        high: c.high.max(level),
         ended: c.downs,
-    }
-}
-
-// The sums behind a `<`, `[` or `]`, by how many they are more.
-fn counted(c: Chunk, ups: usize, opened: usize, closed: usize) -> Chunk
-    requires { Within 4095 c × (ups ≤ 1) × (opened ≤ 1) × (closed ≤ 1) }
-    ensures { result ≡ more c ups opened closed }
-{
-    Chunk {
-        downs: c.downs,
-        ups: c.ups + ups,
-        opened: c.opened + opened,
-        closed: c.closed + closed,
-        low: c.low,
-        high: c.high,
-        ended: c.ended,
+        ..c
     }
 }
 
@@ -160,12 +126,20 @@ fn sums_after(b: u8, c: Chunk) -> Chunk
     ensures { Behind b c result }
 {
     match b {
-        b'<' => counted(c, 1, 0, 0),
+        b'<' => Chunk {
+            ups: c.ups + 1,
+            ..c
+        },
         b'>' => closed_angle(c),
-        b'[' => counted(c, 0, 1, 0),
-        b']' => counted(c, 0, 0, 1),
-        b'{' => stopped(c),
-        b';' => stopped(c),
+        b'[' => Chunk {
+            opened: c.opened + 1,
+            ..c
+        },
+        b']' => Chunk {
+            closed: c.closed + 1,
+            ..c
+        },
+        b'{' | b';' => stopped(c),
         _ => c,
     }
 }
@@ -183,15 +157,14 @@ pub fn body_sum(s: &[u8], from: usize, to: usize) -> Chunk
         × (result.ended ≤ 4096) }
 {
     let mut c = nothing();
-    let mut at = from;
-    while at < to {
+    for at in from..to {
         c = sums_after(s[at], c);
-        at += 1;
     }
     c
 }
 
 // The sums of the chunk with an index.
+#[tactic(auto, unfolding(crate::specs::Table::puts))]
 fn put_round(t: &mut [u16; 36865], j: usize, r: Round)
     requires { (length t.old ≡ 36865) × (j < 4096) × (r.closed ≤ 4096) × (r.opened ≤ 4096) }
     ensures { t.new ≡ puts (r.closed ∷ r.opened ∷ []) 0 j t.old }
@@ -200,6 +173,7 @@ fn put_round(t: &mut [u16; 36865], j: usize, r: Round)
     t[4097 + j] = r.opened as u16;
 }
 
+#[tactic(auto, unfolding(crate::specs::Table::puts))]
 fn put_body(t: &mut [u16; 36865], j: usize, c: Chunk)
     requires { (length t.old ≡ 36865)
         × (j < 4096)
@@ -226,17 +200,11 @@ fn write_all(s: &[u8], t: &mut [u16; 36865])
     requires { length t.old ≡ 36865 }
     ensures { Summed s.now t.new }
 {
-    let mut j: usize = 0;
-    let mut at: usize = 0;
-    while j < MOST {
-        if s.len() - at < SIZE {
-            t[0] = OFTEN;
-            return;
-        }
+    let many = MOST.min(s.len() / SIZE);
+    for j in 0..many {
+        let at = j * SIZE;
         put_round(t, j, round_sum(s, at, at + SIZE));
         put_body(t, j, body_sum(s, at, at + SIZE));
-        j += 1;
-        at += SIZE;
     }
     t[0] = OFTEN;
 }
@@ -274,30 +242,13 @@ pub fn edge_after(at: usize, end: usize) -> usize
     if end - at < left { end } else { at + left }
 }
 
-fn wide(n: u16) -> usize
-    ensures { (result ≡ n) × (result ≤ 65535) }
+// The chunk that begins at a place, by its index, where its sums are written.
+fn index_of(s: &[u8], t: &[u16; 36865], at: usize) -> Option<usize>
+    ensures { TellsIndex s.now t.now at result }
 {
-    n as usize
-}
-
-// Whether a chunk with sums begins at a place.
-fn is_known(s: &[u8], t: &[u16; 36865], at: usize) -> bool
-    ensures { result ≡ true → Begins s.now t.now at }
-{
-    if t[0] != OFTEN {
-        return false;
-    }
     let j = at / SIZE;
-    if MOST <= j {
-        return false;
-    }
-    if j * SIZE != at {
-        return false;
-    }
-    if s.len() < at {
-        return false;
-    }
-    SIZE <= s.len() - at
+    let known = t[0] == OFTEN && j < MOST && j * SIZE == at && at + SIZE <= s.len();
+    known.then_some(j)
 }
 
 // The sums that are written for the chunk with an index.
@@ -309,60 +260,33 @@ fn read_chunk(t: &[u16; 36865], j: usize) -> Chunk
         × (result.high ≤ 65535) }
 {
     Chunk {
-        downs: wide(t[8193 + j]),
-        ups: wide(t[12289 + j]),
-        opened: wide(t[16385 + j]),
-        closed: wide(t[20481 + j]),
-        low: wide(t[24577 + j]),
-        high: wide(t[28673 + j]),
-        ended: wide(t[32769 + j]),
+        downs: usize::from(t[8193 + j]),
+        ups: usize::from(t[12289 + j]),
+        opened: usize::from(t[16385 + j]),
+        closed: usize::from(t[20481 + j]),
+        low: usize::from(t[24577 + j]),
+        high: usize::from(t[28673 + j]),
+        ended: usize::from(t[32769 + j]),
     }
 }
 
 // What is told of the chunk at a place.
-#[derive(Clone, Copy)]
-pub enum Known {
-    Sums(Chunk),
-    Unknown,
-}
-
-pub fn chunk_at(s: &[u8], t: &[u16; 36865], at: usize) -> Known
+pub fn chunk_at(s: &[u8], t: &[u16; 36865], at: usize) -> Option<Chunk>
     requires { Summed s.now t.now }
     ensures { TellsChunk s.now at result }
 {
-    if !is_known(s, t, at) {
-        return Known::Unknown;
-    }
-    Known::Sums(read_chunk(t, at / SIZE))
+    let j = index_of(s, t, at)?;
+    Some(read_chunk(t, j))
 }
 
-// A search for the partner of a round bracket at a chunk: how many are open inside the bracket behind it; or the partner may be met in it.
-#[derive(Clone, Copy)]
-pub enum Past {
-    Depth(usize),
-    Met,
-}
-
-pub fn round_past(s: &[u8], t: &[u16; 36865], at: usize, depth: usize) -> Past
+// A search for the partner of a round bracket at a chunk: how many are open inside the bracket behind it. None where the partner may be met in it.
+pub fn round_past(s: &[u8], t: &[u16; 36865], at: usize, depth: usize) -> Option<usize>
     requires { (depth ≤ at) × Summed s.now t.now }
     ensures { TellsDepth s.now at depth result }
 {
-    if !is_known(s, t, at) {
-        return Past::Met;
-    }
-    let j = at / SIZE;
-    let closed = wide(t[1 + j]);
-    if depth < closed {
-        return Past::Met;
-    }
-    Past::Depth(depth - closed + wide(t[4097 + j]))
-}
-
-// A search for a body at a chunk: what it has counted behind it; or it may end in it.
-#[derive(Clone, Copy)]
-pub enum BodyPast {
-    Further(Counts),
-    Held,
+    let j = index_of(s, t, at)?;
+    let outer = depth.checked_sub(usize::from(t[1 + j]))?;
+    Some(outer + usize::from(t[4097 + j]))
 }
 
 // Whether a search with these counts does not end in a chunk.
@@ -372,13 +296,7 @@ pub fn misses(c: Chunk, n: Counts) -> bool
         × Counted n 9223372036854775807 }
     ensures { result ≡ true → Misses c n.angle n.opened n.closed }
 {
-    if c.ended < n.angle {
-        return true;
-    }
-    if BASE + n.closed < c.low + n.opened {
-        return true;
-    }
-    c.high + n.opened < BASE + n.closed
+    c.ended < n.angle || BASE + n.closed < c.low + n.opened || c.high + n.opened < BASE + n.closed
 }
 
 // What a search has counted behind a chunk.
@@ -387,24 +305,21 @@ pub fn counts_past(c: Chunk, n: Counts) -> Counts
     ensures { result ≡ counts_past c n }
 {
     Counts {
-        angle: flat::less(n.angle, c.downs) + c.ups,
+        angle: n.angle.saturating_sub(c.downs) + c.ups,
         opened: n.opened + c.opened,
         closed: n.closed + c.closed,
     }
 }
 
-pub fn body_past(s: &[u8], t: &[u16; 36865], at: usize, n: Counts) -> BodyPast
+// A search for a body at a chunk: what it has counted behind it. None where it may end in it.
+pub fn body_past(s: &[u8], t: &[u16; 36865], at: usize, n: Counts) -> Option<Counts>
     requires { Counted n at × Summed s.now t.now }
     ensures { TellsCounts s.now at n result }
 {
-    let known = chunk_at(s, t, at);
-    match known {
-        Known::Unknown => BodyPast::Held,
-        Known::Sums(c) => {
-            if !misses(c, n) {
-                return BodyPast::Held;
-            }
-            BodyPast::Further(counts_past(c, n))
-        }
+    let c = chunk_at(s, t, at)?;
+    if misses(c, n) {
+        Some(counts_past(c, n))
+    } else {
+        None
     }
 }

@@ -1,7 +1,7 @@
 -- Searches for a body that are kept by what they have counted at one place. The list's first number is the place; the second tells nothing. Behind them
 -- stand the angle brackets of 64 searches, the square brackets that they have seen opened, those closed, and their numbers. The last number tells nothing
 -- either.
-use Rattle.std.specs.Prelude.{ℕ, ◌+◌, ◌-◌, ◌≤◌, ◌<◌, ◌≡◌, refl, ◌⊎◌, ◌≢◌, List, eqb, length, drop, get_or, set}
+use Rattle.std.specs.Prelude.{ℕ, ◌+◌, ◌-◌, ◌≤◌, ◌<◌, ◌≡◌, refl, ◌⊎◌, ◌≢◌, List, eqb, length, drop, get_or, set, Option as Possible, Some, None}
 use Rattle.std.proofs.Common.{ap, subst, sym, ◌∙◌, inl, inr, ⊎_elim, arith, eqb-true, length-set, get_or-set_other, get_or-set_same}
 use Rattle.std.proofs.Math.Option.{Option, none, some}
 use Rattle.std.proofs.lemmas.Bool.{eqb-false}
@@ -14,14 +14,12 @@ use Rattle.flat.specs.LevelLaws.{body_same}
 use Rattle.flat.specs.declared.Counts.{Counts}
 use Rattle.chunks.specs.Passing.{Misses, PassesBody}
 use Rattle.chunks.specs.PastLaws.{counted-further, counts_past}
-use Rattle.chunks.specs.declared.BodyPast.{BodyPast}
-use Rattle.chunks.specs.declared.BodyPast.TheVariants.{Further, Held}
 use Rattle.chunks.specs.declared.Chunk.{Chunk}
 
 -- a search goes on behind a chunk that ends before a place with other counts
-abbrev pub TellsPast : List ℕ → (at to : ℕ) → Counts → BodyPast → Type 0
-TellsPast s at to n (Further m) = (at + 4096 ≤ to) × (body_from s at n ≡ body_from s (at + 4096) m) × Counted m (at + 4096)
-TellsPast s at to n Held = ℕ
+abbrev pub TellsPast : List ℕ → (at to : ℕ) → Counts → Possible Counts → Type 0
+TellsPast s at to n (Some m) = (at + 4096 ≤ to) × (body_from s at n ≡ body_from s (at + 4096) m) × Counted m (at + 4096)
+TellsPast s at to n None = ℕ
 
 -- what some bytes do to a search that passes them whole, at most as many as a chunk has
 pub record Sums (s : List ℕ) (from to : ℕ) (c : Chunk) : Type 0 where

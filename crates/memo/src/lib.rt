@@ -7,20 +7,20 @@ ghost use Rattle.flat.specs.Body.{Counted, Reaches, body_from};
 ghost use Rattle.chunks.specs.Table.{Summed};
 ghost use Rattle.memo.specs.Memo.{Entry, Keeps, Meets, Moves, Recalls, Sums, Tells, TellsPast, counts_at, Forgotten, number_at, set_entry};
 
-use chunks::{BodyPast, Chunk};
+use chunks::Chunk;
 use flat::{Counts, Reached};
 
 // The searches that are kept. The array's first number is the place, its second tells which search is given up next; behind them stand for each search
 // its open angle brackets, the square brackets that it has seen opened and closed, and what it finds; and last, how far they go.
 const MOST: usize = 64;
 
-// The chunk at a place, where it ends before another: what a search has counted behind it; or the search may end in it.
-fn past_before(s: &[u8], t: &[u16; 36865], at: usize, to: usize, n: Counts) -> BodyPast
+// The chunk at a place, where it ends before another: what a search has counted behind it. None where the search may end in it.
+fn past_before(s: &[u8], t: &[u16; 36865], at: usize, to: usize, n: Counts) -> Option<Counts>
     requires { (at ≤ to) × Counted n at × Summed s.now t.now }
     ensures { TellsPast s.now at to n result }
 {
     if to - at < chunks::SIZE {
-        return BodyPast::Held;
+        return None;
     }
     chunks::body_past(s, t, at, n)
 }
@@ -35,11 +35,11 @@ pub fn body_until(s: &[u8], t: &[u16; 36865], from: usize, to: usize, n: Counts)
     while at < to {
         let past = past_before(s, t, at, to, counts);
         match past {
-            BodyPast::Further(k) => {
+            Some(k) => {
                 at += chunks::SIZE;
                 counts = k;
             }
-            BodyPast::Held => {
+            None => {
                 let stop = chunks::edge_after(at, to);
                 let met = flat::body_before(s, at, stop, counts);
                 match met {
@@ -249,7 +249,7 @@ pub fn keep(f: &mut [usize; 259], n: Counts, number: usize, end: usize)
 {
     let i = free_index(f);
     f[1] = i + 1;
-    f[258] = chunks::most(f[258], end);
+    f[258] = f[258].max(end);
     put(f, i, n, number);
 }
 

@@ -1,7 +1,7 @@
 -- One pass over a text tells the partners of the round brackets of a part of it. The part begins at a place `from`, and an index i stands for the bracket
 -- before the place from + i. Brackets whose partner is not met yet wait, the last one that was opened on top. The others are written down in the order
 -- in which they are closed, so that the places behind their partners rise.
-use Rattle.std.specs.Prelude.{ℕ, ◌+◌, ◌-◌, ◌≤◌, ◌<◌, ◌≡◌, refl, ◌≢◌, ◌⊎◌, List, eqb, length, drop, get_or, set}
+use Rattle.std.specs.Prelude.{ℕ, ◌+◌, ◌-◌, ◌≤◌, ◌<◌, ◌≡◌, refl, ◌≢◌, ◌⊎◌, List, eqb, length, drop, Some, get_or, set}
 use Rattle.std.proofs.Common.{ap, subst, sym, ◌∙◌, inl, inr, ⊎_elim, arith, length-set, get_or-set_other, get_or-set_same, eqb-true}
 use Rattle.std.proofs.Math.Option.{none, some}
 use Rattle.std.proofs.lemmas.Bool.{eqb-false}
@@ -11,7 +11,6 @@ use Rattle.source_rules.specs.Finding.{body_at}
 use Rattle.source_rules.proofs.WalkSteps.{partner_close, partner-end, partner-found, partner_open, partner-other}
 use Rattle.windows.specs.Window.{Noted}
 use Rattle.chunks.specs.Passing.{TellsDepth}
-use Rattle.chunks.specs.declared.Past.TheVariants.{Depth}
 use Rattle.bodies.specs.Bodies.{Rising}
 use Rattle.parts.specs.declared.Pass.{Pass}
 use Rattle.parts.specs.Told.{Told, body_behind, never, no-brace, no_end, sought_from, told_zero}
@@ -204,7 +203,7 @@ module _ (s opens : List ℕ) (from many at high inner : ℕ) (w : Waiting s ope
           }
 
 -- behind a chunk in which none of them is closed
-waiting-past : (s opens : List ℕ) (from many at high inner d : ℕ) → Waiting s opens from many at high inner → TellsDepth s at inner (Depth d)
+waiting-past : (s opens : List ℕ) (from many at high inner d : ℕ) → Waiting s opens from many at high inner → TellsDepth s at inner (Some d)
     → Waiting s opens from many (at + 4096) high d
 waiting-past s opens from many at high inner d w e = record { within = w.within; sought = λ k l. w.sought k l ∙ e.2 (high - 1 - k) }
 
@@ -285,7 +284,7 @@ module _ {s opens owners starts : List ℕ} {from many at high ended inner : ℕ
       }
 
 -- a chunk further
-pub passed_chunk : {s opens owners starts : List ℕ} {from many at high ended inner d : ℕ} → Passed s opens owners starts from many (pass_at at high ended inner) → TellsDepth s at inner (Depth d)
+pub passed_chunk : {s opens owners starts : List ℕ} {from many at high ended inner d : ℕ} → Passed s opens owners starts from many (pass_at at high ended inner) → TellsDepth s at inner (Some d)
     → Passed s opens owners starts from many (pass_at (at + 4096) high ended d)
 passed_chunk {s} {opens} {owners} {starts} {from} {many} {at} {high} {ended} {inner} {d} w e =
     passed_on w (omega arith) e.0 e.1 (waiting-past s opens from many at high inner d w.waiting e)

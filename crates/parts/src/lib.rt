@@ -8,7 +8,6 @@ ghost use Rattle.bodies.specs.Bodies.{Finds};
 ghost use Rattle.parts.specs.Filling.{Begun, Closes, Order, Passed, Unmet, Window, set_pair};
 ghost use Rattle.parts.specs.Told.{Lent};
 
-use chunks::Past;
 use windows::Pair;
 
 // The first number of a bracket that has no partner, or one without a body behind it.
@@ -174,7 +173,7 @@ fn turn(
         × Passed s.now opens.now owners.new starts.new from many result }
 {
     let past = chunks::round_past(s, t, p.at, p.inner);
-    let Past::Depth(inner) = past else {
+    let Some(inner) = past else {
         let to = chunks::edge_after(p.at, s.len());
         return behind_before(s, from, many, to, p, opens, owners, starts);
     };

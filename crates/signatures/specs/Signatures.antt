@@ -1,5 +1,5 @@
 -- The search for the end of a list of parameters and for the brace of the body behind it, and what it answers.
-use Rattle.std.specs.Prelude.{ℕ, ◌+◌, ◌-◌, ◌≤◌, ◌≡◌, ◌≢◌, List, length}
+use Rattle.std.specs.Prelude.{ℕ, ◌+◌, ◌-◌, ◌≤◌, ◌≡◌, ◌≢◌, List, length, Some}
 use Rattle.std.proofs.Common.{ap, subst, sym, ◌∙◌, arith}
 use Rattle.std.proofs.Math.Option.{none, some}
 use Rattle.text_rules.specs.BytesLaws.{some_same}
@@ -7,7 +7,6 @@ use Rattle.source_rules.proofs.PlaceLaws.{body-place}
 use Rattle.flat.specs.Body.{Counted, body_from}
 use Rattle.flat.specs.declared.Counts.{Counts}
 use Rattle.chunks.specs.Passing.{TellsDepth}
-use Rattle.chunks.specs.declared.Past.TheVariants.{Depth}
 use Rattle.memo.specs.Memo.{Recalls, Tells}
 use Rattle.parts.specs.Told.{Lent, NoBody, Told, body_behind, never, no-brace, no_end, sought_from}
 use Rattle.signatures.specs.declared.Sought.{Sought}
@@ -18,7 +17,7 @@ abbrev pub Lends : (s m t f : List ℕ) → Type 0
 Lends s m t f = Lent s m t × Recalls s f
 
 -- a search goes on behind a chunk that it passes
-pub sought-past : (s : List ℕ) (at depth d : ℕ) → TellsDepth s at depth (Depth d) → sought_from s at depth ≡ sought_from s (at + 4096) d
+pub sought-past : (s : List ℕ) (at depth d : ℕ) → TellsDepth s at depth (Some d) → sought_from s at depth ≡ sought_from s (at + 4096) d
 sought-past s at depth d e =
     let before : depth ≡ depth + 0 = omega arith in
     let behind : d + 0 ≡ d = omega arith in

@@ -12,7 +12,6 @@ ghost use Rattle.chunks.specs.Table.{Summed};
 ghost use Rattle.parts.specs.Told.{Lent, body_behind, sought_from};
 ghost use Rattle.signatures.specs.Signatures.{Begins, Follows, Lends, nothing_counted, number_for};
 
-use chunks::Past;
 use flat::{Counts, Reached};
 use search::{Met, Place};
 
@@ -41,11 +40,11 @@ fn far_end(s: &[u8], t: &[u16; 36865], from: usize, depth: usize) -> Place
     while at < s.len() {
         let past = chunks::round_past(s, t, at, inner);
         match past {
-            Past::Depth(d) => {
+            Some(d) => {
                 at += chunks::SIZE;
                 inner = d;
             }
-            Past::Met => {
+            None => {
                 let to = chunks::edge_after(at, s.len());
                 let met = search::partner_before(s, b'(', b')', at, to, inner);
                 match met {

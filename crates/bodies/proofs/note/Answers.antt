@@ -14,4 +14,4 @@ returns c =
     let i = c.if-level-gt-TOP.false in
     let z = c.level_of-level.ensures.0 (omega (arith, i)) in
     let e : c.level_of-level.result ≡ 2048 + w.opened - w.closed = omega (arith, z) in
-    inr (rw (c.least.ensures, c.most.ensures, sym e), omega (arith, z), omega (arith, e, i), refl, rw (sym e), rw (sym e))
+    inr (rw (c.min.ensures, c.max.ensures, sym e), omega (arith, z), omega (arith, e, i), refl, rw (sym e), rw (sym e))

@@ -4,7 +4,4 @@ use Rattle.chunks.specs.Passing.{PassesRound}
 use Rattle.chunks.proofs.round_sum.Given as goal
 
 abbrev pub invariant-loop-at : goal.invariant-loop-at
-invariant-loop-at l = (l.from ≤ l.at) × (l.at ≤ l.to) × (l.closed + l.opened ≤ l.at - l.from) × PassesRound l.s l.from l.at (record { closed = l.closed; opened = l.opened })
-
-abbrev pub decreases-loop-at : goal.decreases-loop-at
-decreases-loop-at l = l.to - l.at
+invariant-loop-at l = (l.closed + l.opened ≤ l.at - l.from) × PassesRound l.s l.from l.at (record { closed = l.closed; opened = l.opened })

@@ -15,4 +15,5 @@ pub returns : goal.returns
 returns c =
     let a = c.args.c in
     let w = c.requires in
-    rw (c.least.ensures, c.most.ensures) (behind-stop brace_open a (inl refl) (omega (arith, c.if-c-gt0.false)) w, behind-stop semicolon a (inr refl) (omega (arith, c.if-c-gt0.false)) w)
+    rw (c.min.ensures, c.max.ensures)
+    (behind-stop brace_open a (inl refl) (omega (arith, c.if-c-gt0.false)) w, behind-stop semicolon a (inr refl) (omega (arith, c.if-c-gt0.false)) w)

@@ -14,16 +14,16 @@ past_before-past-requires c = (c.loop-at.invariant.0, c.loop-at.invariant.1, c.r
 pub overflow_add-at : goal.overflow_add-at
 overflow_add-at c =
     let a = c.args in
-    let e = subst (TellsPast a.s.now c.loop-at.at a.to c.loop-at.counts) c.in-Further.is c.past_before-past.ensures in
+    let e = subst (TellsPast a.s.now c.loop-at.at a.to c.loop-at.counts) c.in-Some.is c.past_before-past.ensures in
     omega (arith, e.0, c.requires.1)
 
-pub loop-at-smaller-in-Further : goal.loop-at-smaller-in-Further
-loop-at-smaller-in-Further c = omega arith
+pub loop-at-smaller-in-Some : goal.loop-at-smaller-in-Some
+loop-at-smaller-in-Some c = omega arith
 
-pub loop-at-preserved-in-Further : goal.loop-at-preserved-in-Further
-loop-at-preserved-in-Further c =
+pub loop-at-preserved-in-Some : goal.loop-at-preserved-in-Some
+loop-at-preserved-in-Some c =
     let a = c.args in
-    let e = subst (TellsPast a.s.now c.loop-at.at a.to c.loop-at.counts) c.in-Further.is c.past_before-past.ensures in
+    let e = subst (TellsPast a.s.now c.loop-at.at a.to c.loop-at.counts) c.in-Some.is c.past_before-past.ensures in
     (e.0, e.2, c.loop-at.invariant.2 ∙ e.1)
 
 pub body_before-met-requires : goal.body_before-met-requires
@@ -42,7 +42,7 @@ returns-in-Ended c =
 
 pub loop-at-preserved : goal.loop-at-preserved
 loop-at-preserved c =
-    let e = subst (Reaches c.args.s.now c.loop-at.at c.edge_after-stop.result c.loop-at.counts) c.in-Further-met.is c.body_before-met.ensures in
+    let e = subst (Reaches c.args.s.now c.loop-at.at c.edge_after-stop.result c.loop-at.counts) c.in-Further.is c.body_before-met.ensures in
     (c.edge_after-stop.ensures.1, e.1, c.loop-at.invariant.2 ∙ e.0)
 
 pub returns : goal.returns

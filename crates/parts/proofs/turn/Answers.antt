@@ -8,5 +8,5 @@ use Rattle.parts.proofs.turn.Goals as goal
 pub returns : goal.returns
 returns c =
     let a = c.args in
-    let e = subst (TellsDepth a.s.now a.p.at a.p.inner) c.in-Depth.is c.round_past-past.ensures in
+    let e = subst (TellsDepth a.s.now a.p.at a.p.inner) c.in-Some.is c.round_past-past.ensures in
     (omega arith, passed_chunk c.requires.5 e)

@@ -17,16 +17,16 @@ round_past-past-requires c = (c.loop-at.invariant.1, c.requires.2)
 
 pub overflow_add-at : goal.overflow_add-at
 overflow_add-at c =
-    let e = subst (TellsDepth c.args.s.now c.loop-at.at c.loop-at.inner) c.in-Depth.is c.round_past-past.ensures in
+    let e = subst (TellsDepth c.args.s.now c.loop-at.at c.loop-at.inner) c.in-Some.is c.round_past-past.ensures in
     omega (arith, e.0)
 
-pub loop-at-smaller-in-Depth : goal.loop-at-smaller-in-Depth
-loop-at-smaller-in-Depth c = omega arith
+pub loop-at-smaller-in-Some : goal.loop-at-smaller-in-Some
+loop-at-smaller-in-Some c = omega arith
 
-pub loop-at-preserved-in-Depth : goal.loop-at-preserved-in-Depth
-loop-at-preserved-in-Depth c =
+pub loop-at-preserved-in-Some : goal.loop-at-preserved-in-Some
+loop-at-preserved-in-Some c =
     let s = c.args.s.now in
-    let e = subst (TellsDepth s c.loop-at.at c.loop-at.inner) c.in-Depth.is c.round_past-past.ensures in
+    let e = subst (TellsDepth s c.loop-at.at c.loop-at.inner) c.in-Some.is c.round_past-past.ensures in
     (e.0, e.1, c.loop-at.invariant.2 ∙ sought-past s c.loop-at.at c.loop-at.inner _ e)
 
 pub returns-in-Partner : goal.returns-in-Partner
@@ -36,7 +36,7 @@ returns-in-Partner c =
 
 pub loop-at-preserved : goal.loop-at-preserved
 loop-at-preserved c =
-    let e = subst (Meets c.args.s.now round_open round_close c.loop-at.at c.edge_after-to.result c.loop-at.inner) c.in-Depth-met.is c.partner_before-met.ensures in
+    let e = subst (Meets c.args.s.now round_open round_close c.loop-at.at c.edge_after-to.result c.loop-at.inner) c.in-Depth.is c.partner_before-met.ensures in
     (c.edge_after-to.ensures.1, e.1, c.loop-at.invariant.2 ∙ e.0)
 
 pub returns : goal.returns
