@@ -63,12 +63,12 @@ pub fn function_at(tree: &[u8], lent: &[u8], k: usize) -> Function
     requires { Stand tree.now lent.now × (k < length (functions_of gate tree.now)) }
     ensures { (shown tree.now result ≡ get_or (functions_of gate tree.now) k no_fun) × Lies tree.now result }
 {
-    let r = records::get_record(lent, k * records::RECORD_WIDTH);
+    let r = records::Record::get(lent, k * records::RECORD_WIDTH);
     let path = layout::path_span(tree, r.file as usize);
     let start = r.start as usize;
     Function {
-        path_at: path.from,
-        path_end: path.to,
+        path_at: path.start,
+        path_end: path.end,
         name_at: start,
         name_end: start + r.len as usize,
         line: r.line,

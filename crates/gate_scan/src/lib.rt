@@ -29,9 +29,7 @@ fn blank_texts(tree: &[u8], work: &mut [u8])
     let mut k = 0;
     while k < n {
         let text = layout::text_span(tree, k);
-        let from = text.from;
-        let to = text.to;
-        blanking::blank_part(tree, work, from, to);
+        blanking::blank_part(tree, work, text.start, text.end);
         k += 1;
     }
 }
@@ -53,7 +51,7 @@ fn put_numbered(lent: &mut [u8], number: usize, r: Record)
     ensures { lent.new ≡ put_record number (record_bytes (numbers r)) lent.old }
 {
     if number < room(lent.len()) {
-        records::put_record(lent, number * records::RECORD_WIDTH, r);
+        r.put(lent, number * records::RECORD_WIDTH);
     }
 }
 
@@ -132,10 +130,9 @@ fn scan_texts(tree: &[u8], work: &[u8], lent: &mut [u8]) -> usize
     let mut done = 0;
     while file < n {
         let text = layout::text_span(tree, file);
-        let from = text.from;
-        let to = text.to;
+        let from = text.start;
         done = scan_text(
-            &work[from..to],
+            &work[text],
             file,
             from,
             lent,

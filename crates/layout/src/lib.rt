@@ -2,45 +2,70 @@
 #![tactic(auto)]
 
 ghost use Rattle.std.specs.Prelude.{◌≡◌, true, ◌+◌, ◌<◌, ◌≤◌, length};
-ghost use Rattle.text_rules.specs.U32.{u32_at};
-ghost use Rattle.gate_rules.specs.Tree.{entry_at, entry_fits, file_count, is_laid_out, path_length, path_offset, text_length, text_offset};
+ghost use Rattle.gate_rules.specs.Tree.{entry_at, file_count, is_laid_out, path_at, path_length, path_offset, text_in, text_length, text_offset};
+ghost use Rattle.layout.specs.Entry.{entry_in, fits};
+
+use std::ops::Range;
 
 // The files of a tree, and the bytes of a path.
 pub const MAX_FILES: usize = 1024;
 
 pub const MAX_PATH: usize = 1024;
 
-// A number of the tree, to count with.
-fn number(tree: &[u8], at: usize) -> usize
-    requires { at + 4 ≤ length tree.now }
-    ensures { (result ≡ u32_at tree.now at) × (result < 4294967296) }
-{
-    words::get_u32(tree, at) as usize
+// An entry of the table: where the path and the text of a file begin, and how many bytes they have.
+#[derive(Clone, Copy, PartialEq, Eq, Debug)]
+struct Entry {
+    path: u32,
+    path_length: u32,
+    text: u32,
+    text_length: u32,
 }
 
-// An entry whose path begins at the running place fits: no number of it leaves the tree or a limit.
-#[tactic(auto, unfolding(gate_rules::specs::Tree::entry_fits))]
-fn entry_fits(tree: &[u8], entry: usize, running: usize) -> bool
-    requires { (entry + 16 ≤ length tree.now) × (running < 8589934592) }
-    ensures { result ≡ entry_fits tree.now entry running }
-{
-    let path = number(tree, entry);
-    let path_length = number(tree, entry + 4);
-    let text = number(tree, entry + 8);
-    let text_length = number(tree, entry + 12);
-    if path != running {
-        return false;
+impl Entry {
+    // The entry that begins at a place.
+    fn read(tree: &[u8], at: usize) -> Entry
+        requires { at + 16 ≤ length tree.now }
+        ensures { result ≡ entry_in tree.now at }
+    {
+        Entry {
+            path: words::get_u32(tree, at),
+            path_length: words::get_u32(tree, at + 4),
+            text: words::get_u32(tree, at + 8),
+            text_length: words::get_u32(tree, at + 12),
+        }
     }
-    if path_length < 1 {
-        return false;
+
+    // Where the path stands.
+    fn path(self) -> Range<usize>
+        ensures from { result.start ≡ self.path }
+        ensures to { result.end ≡ self.path + self.path_length }
+    {
+        let from = self.path as usize;
+        from..from + self.path_length as usize
     }
-    if path_length > MAX_PATH {
-        return false;
+
+    // Where the text stands.
+    fn text(self) -> Range<usize>
+        ensures from { result.start ≡ self.text }
+        ensures to { result.end ≡ self.text + self.text_length }
+    {
+        let from = self.text as usize;
+        from..from + self.text_length as usize
     }
-    if text != running + path_length {
-        return false;
+
+    // The path begins at the running place, and no number leaves the tree, which has so many bytes, or a limit.
+    fn fits(self, running: usize, size: usize) -> bool
+        requires { running < 8589934592 }
+        ensures { result ≡ fits self running size }
+    {
+        let path_length = self.path_length as usize;
+        let text = self.text();
+        self.path as usize == running
+            && 1 <= path_length
+            && path_length <= MAX_PATH
+            && text.start == running + path_length
+            && text.end <= size
     }
-    text + text_length <= tree.len()
 }
 
 // The layout and its limits are kept, to the last byte.
@@ -50,7 +75,7 @@ pub fn laid_out(tree: &[u8]) -> bool
     if tree.len() < 4 {
         return false;
     }
-    let n = number(tree, 0);
+    let n = file_count(tree);
     if n > MAX_FILES {
         return false;
     }
@@ -58,63 +83,73 @@ pub fn laid_out(tree: &[u8]) -> bool
     if tree.len() < table {
         return false;
     }
-    let mut k = 0;
     let mut running = table;
-    while k < n {
-        let entry = 4 + 16 * k;
-        if entry_fits(tree, entry, running) {
-            running = number(tree, entry + 8) + number(tree, entry + 12);
-            k += 1;
-        } else {
+    for k in 0..n {
+        let entry = Entry::read(tree, 4 + 16 * k);
+        if !entry.fits(running, tree.len()) {
             return false;
         }
+        running = entry.text().end;
     }
     running == tree.len()
 }
 
 // The number of files.
+#[tactic(auto, unfolding(gate_rules::specs::Tree::file_count))]
 pub fn file_count(tree: &[u8]) -> usize
     requires { 4 ≤ length tree.now }
     ensures { (result ≡ file_count tree.now) × (result < 4294967296) }
 {
-    number(tree, 0)
+    words::get_u32(tree, 0) as usize
 }
 
-// A part of the tree, from one place up to another, that one not included.
-#[derive(Drop)]
-pub struct Span {
-    pub from: usize,
-    pub to: usize,
+// The entry of a file.
+fn entry_of(tree: &[u8], k: usize) -> Entry
+    requires laid { is_laid_out tree.now ≡ true }
+    requires few { k < file_count tree.now }
+    ensures entry { result ≡ entry_in tree.now (entry_at k) }
+    ensures path_inside { result.path + result.path_length ≤ length tree.now }
+    ensures text_inside { result.text + result.text_length ≤ length tree.now }
+{
+    Entry::read(tree, 4 + 16 * k)
 }
 
 // Where the path of a file stands.
-pub fn path_span(tree: &[u8], k: usize) -> Span
+pub fn path_span(tree: &[u8], k: usize) -> Range<usize>
     requires { (is_laid_out tree.now ≡ true) × (k < file_count tree.now) }
-    ensures { (result.from ≡ path_offset tree.now (entry_at k))
-        × (result.to ≡ path_offset tree.now (entry_at k) + path_length tree.now (entry_at k))
-        × (result.from ≤ result.to)
-        × (result.to ≤ length tree.now) }
+    ensures { (result.start ≡ path_offset tree.now (entry_at k))
+        × (result.end ≡ path_offset tree.now (entry_at k) + path_length tree.now (entry_at k))
+        × (result.start ≤ result.end)
+        × (result.end ≤ length tree.now) }
 {
-    let entry = 4 + 16 * k;
-    let from = number(tree, entry);
-    Span {
-        from,
-        to: from + number(tree, entry + 4),
-    }
+    entry_of(tree, k).path()
 }
 
 // Where the text of a file stands.
-pub fn text_span(tree: &[u8], k: usize) -> Span
+pub fn text_span(tree: &[u8], k: usize) -> Range<usize>
     requires { (is_laid_out tree.now ≡ true) × (k < file_count tree.now) }
-    ensures { (result.from ≡ text_offset tree.now (entry_at k))
-        × (result.to ≡ text_offset tree.now (entry_at k) + text_length tree.now (entry_at k))
-        × (result.from ≤ result.to)
-        × (result.to ≤ length tree.now) }
+    ensures { (result.start ≡ text_offset tree.now (entry_at k))
+        × (result.end ≡ text_offset tree.now (entry_at k) + text_length tree.now (entry_at k))
+        × (result.start ≤ result.end)
+        × (result.end ≤ length tree.now) }
 {
-    let entry = 4 + 16 * k;
-    let from = number(tree, entry + 8);
-    Span {
-        from,
-        to: from + number(tree, entry + 12),
-    }
+    entry_of(tree, k).text()
+}
+
+// The path of a file.
+pub fn path(tree: &[u8], k: usize) -> &[u8]
+    requires laid { is_laid_out tree.now ≡ true }
+    requires few { k < file_count tree.now }
+    ensures { result.now ≡ path_at tree.now (entry_at k) }
+{
+    &tree[path_span(tree, k)]
+}
+
+// The text of a file.
+pub fn text(tree: &[u8], k: usize) -> &[u8]
+    requires laid { is_laid_out tree.now ≡ true }
+    requires few { k < file_count tree.now }
+    ensures { result.now ≡ text_in tree.now (entry_at k) }
+{
+    &tree[text_span(tree, k)]
 }

@@ -1,2 +1,2 @@
--- The law that the writers cite.
-mod Parts
+-- The law that the writer cites.
+pub mod Parts

@@ -11,14 +11,12 @@ ghost use Rattle.report_files.specs.Weights.{Known, weight_at};
 ghost use Rattle.report_files.specs.Files.{FileChosen, FileFit, Heavy, file_at, file_first, file_row, heaviest_files, listed};
 
 // The path of a file.
+#[tactic(auto, unfolding(gate_rules::specs::Tree::path_of))]
 fn path_at<'a>(tree: &'a [u8], k: usize) -> &'a [u8]
     requires { (is_laid_out tree.now ≡ true) × (k < file_count tree.now) }
     ensures { result.now ≡ path_of tree.now k }
 {
-    let path = layout::path_span(tree, k);
-    let from = path.from;
-    let to = path.to;
-    &tree[from..to]
+    layout::path(tree, k)
 }
 
 // The order of the files: by sum falling, and where it is the same by path bytes.

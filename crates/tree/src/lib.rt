@@ -13,19 +13,13 @@ pub fn paths_rise(tree: &[u8]) -> bool
     ensures { result ≡ paths_rise [] (sources tree.now) }
 {
     let n = layout::file_count(tree);
-    let mut next = 0;
-    let mut a = 0;
-    let mut e = 0;
-    while next < n {
-        let path = layout::path_span(tree, next);
-        let from = path.from;
-        let to = path.to;
-        if !paths::next_path(&tree[a..e], &tree[from..to]) {
+    let mut last: &[u8] = &[];
+    for k in 0..n {
+        let path = layout::path(tree, k);
+        if !paths::next_path(last, path) {
             return false;
         }
-        a = from;
-        e = to;
-        next += 1;
+        last = path;
     }
     true
 }
@@ -36,15 +30,10 @@ pub fn texts_good(tree: &[u8]) -> bool
     ensures { result ≡ texts_good (sources tree.now) }
 {
     let n = layout::file_count(tree);
-    let mut file = 0;
-    while file < n {
-        let text = layout::text_span(tree, file);
-        let from = text.from;
-        let to = text.to;
-        if !utf8::is_utf8(&tree[from..to]) {
+    for k in 0..n {
+        if !utf8::is_utf8(layout::text(tree, k)) {
             return false;
         }
-        file += 1;
     }
     true
 }

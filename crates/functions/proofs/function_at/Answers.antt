@@ -12,8 +12,8 @@ overflow_mul-k c =
     let few = c.requires.0.few in
     record { fits = omega arith }
 
-pub get_record-r-requires : goal.get_record-r-requires
-get_record-r-requires c =
+pub get-r-requires : goal.get-r-requires
+get-r-requires c =
     let a = c.args in
     let p = c.requires in
     inside a.tree.now a.lent.now p.0 a.k p.1
@@ -22,7 +22,7 @@ pub path_span-path-requires : goal.path_span-path-requires
 path_span-path-requires c =
     let a = c.args in
     let p = c.requires in
-    let file = c.get_record-r.ensures.file-is ∙ number_at a.tree.now a.lent.now p.0 a.k p.1 0 _ (omega arith) (omega arith) in
+    let file = c.get-r.ensures.file-is ∙ number_at a.tree.now a.lent.now p.0 a.k p.1 0 _ (omega arith) (omega arith) in
     ((unrefused a.tree.now p.0.unrefused).laid, omega (arith, file, (tells-here a.tree.now a.lent.now p.0 a.k p.1).file-there))
 
 pub returns : goal.returns
@@ -31,7 +31,7 @@ returns c =
     let p = c.requires in
     let tree = a.tree.now in
     let lent = a.lent.now in
-    let r = c.get_record-r.ensures in
+    let r = c.get-r.ensures in
     let at = number_at tree lent p.0 a.k p.1 in
     let span = c.path_span-path.ensures in
     let file = r.file-is ∙ at 0 _ (omega arith) (omega arith) in

@@ -9,7 +9,7 @@ pub returns-then-number-room : goal.returns-then-number-room
 returns-then-number-room c =
     let a = c.args in
     let room = c.room.ensures in
-    c.put_record.ensures ∙ put-room a.number (a.number * 32) _ a.lent.now (omega (arith, c.if-number-room.true)) refl
+    c.put.ensures ∙ put-room a.number (a.number * 32) _ a.lent.now (omega (arith, c.if-number-room.true)) refl
 
 pub returns-else-number-room : goal.returns-else-number-room
 returns-else-number-room c =

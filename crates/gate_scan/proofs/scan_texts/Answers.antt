@@ -60,7 +60,7 @@ scan_text-done-requires c =
     let t = c.text_span-text.ensures in
     let f = file-at tree c.loop-file.file c.requires.0 (omega (arith, c.file_count-n.ensures)) in
     let few-files = f.number_small in
-    let inside = part-size c.text_span-text.result.from c.text_span-text.result.to c.args.work.now t.2 in
+    let inside = part-size c.text_span-text.result.start c.text_span-text.result.end c.args.work.now t.2 in
     (omega arith, omega (arith, inside, t.3, c.requires.1), omega (arith, c.loop-file.invariant.2), c.loop-file.invariant.5, c.loop-file.invariant.6, c.loop-file.invariant.7)
 
 pub loop-file-preserved : goal.loop-file-preserved

@@ -5,7 +5,7 @@ use mathlib.Core.Path.{◌≡◌, sym, ap, ◌∙◌}
 use mathlib.Core.Bool.{Bool, true, false, ◌&&◌}
 use mathlib.Core.List.{List, []}
 use native.Mathlib.Omega.{arith}
-use Rattle.gate_rules.proofs.FileLaws.{count-inside, paths-end, paths-step, span-is}
+use Rattle.gate_rules.proofs.FileLaws.{count-inside, paths-end, paths-step}
 use Rattle.gate_rules.specs.Tree.{entry_at, file_count, is_path, path_at, path_before, paths_rise, sources, sources_from}
 use Rattle.tree.proofs.paths_rise.Invariants.{rest}
 use Rattle.tree.proofs.paths_rise.Goals as goal
@@ -27,26 +27,19 @@ all tree n e = let m : n - 0 ≡ file_count tree = omega arith in ap (λ i. path
 pub file_count-n-requires : goal.file_count-n-requires
 file_count-n-requires c = count-inside _ c.requires
 
-pub loop-next-init : goal.loop-next-init
-loop-next-init c = (omega arith, omega arith, all _ _ c.file_count-n.ensures.0)
+pub loop-k-init : goal.loop-k-init
+loop-k-init c = all _ _ c.file_count-n.ensures.0
 
-pub path_span-path-requires : goal.path_span-path-requires
-path_span-path-requires c = (c.requires, omega (arith, c.file_count-n.ensures.0))
+pub path-path-requires : goal.path-path-requires
+path-path-requires c = record { laid = c.requires; few = omega (arith, c.file_count-n.ensures.0) }
 
 pub returns-then-not-next_path : goal.returns-then-not-next_path
 returns-then-not-next_path c =
-    let tree = c.args.tree.now in
-    let p = span-is tree _ _ _ _ c.path_span-path.ensures.0 c.path_span-path.ensures.1 in
-    sym (sym c.loop-next.invariant.2 ∙ stops tree _ c.loop-next.next _ _ _ (omega arith) p c.next_path.ensures c.if-not-next_path.true)
+    sym (sym c.loop-k.invariant ∙ stops c.args.tree.now _ c.loop-k.k _ _ _ (omega arith) c.path-path.ensures c.next_path.ensures c.if-not-next_path.true)
 
-pub loop-next-preserved : goal.loop-next-preserved
-loop-next-preserved c =
-    let tree = c.args.tree.now in
-    let p = span-is tree _ _ _ _ c.path_span-path.ensures.0 c.path_span-path.ensures.1 in (
-      omega arith,
-      omega arith,
-      goes_on tree _ c.loop-next.next _ _ _ (omega arith) p c.next_path.ensures c.if-not-next_path.false ∙ c.loop-next.invariant.2,
-    )
+pub loop-k-preserved : goal.loop-k-preserved
+loop-k-preserved c =
+    goes_on c.args.tree.now _ c.loop-k.k _ _ _ (omega arith) c.path-path.ensures c.next_path.ensures c.if-not-next_path.false ∙ c.loop-k.invariant
 
 pub returns : goal.returns
-returns c = sym (sym c.loop-next.invariant.2 ∙ paths-end _ _ c.loop-next.next _ c.loop-next-test.false)
+returns c = sym (sym c.loop-k.invariant ∙ paths-end _ _ c.loop-k.k _ c.loop-k-test.false)

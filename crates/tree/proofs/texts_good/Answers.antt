@@ -6,7 +6,7 @@ use mathlib.Core.Bool.{Bool, true, false}
 use mathlib.Core.List.{List}
 use native.Mathlib.Omega.{arith}
 use Rattle.text_rules.specs.Utf8.{is_utf8}
-use Rattle.gate_rules.proofs.FileLaws.{count-inside, span-is, texts-end, texts-step}
+use Rattle.gate_rules.proofs.FileLaws.{count-inside, texts-end, texts-step}
 use Rattle.gate_rules.specs.Tree.{entry_at, file_count, sources, sources_from, text_in, texts_good}
 use Rattle.tree.proofs.texts_good.Invariants.{rest}
 use Rattle.tree.proofs.texts_good.Goals as goal
@@ -28,23 +28,19 @@ all tree n e = let m : n - 0 ≡ file_count tree = omega arith in ap (λ i. text
 pub file_count-n-requires : goal.file_count-n-requires
 file_count-n-requires c = count-inside _ c.requires
 
-pub loop-file-init : goal.loop-file-init
-loop-file-init c = all _ _ c.file_count-n.ensures.0
+pub loop-k-init : goal.loop-k-init
+loop-k-init c = all _ _ c.file_count-n.ensures.0
 
-pub text_span-text-requires : goal.text_span-text-requires
-text_span-text-requires c = (c.requires, omega (arith, c.file_count-n.ensures.0))
+pub text-requires : goal.text-requires
+text-requires c = record { laid = c.requires; few = omega (arith, c.file_count-n.ensures.0) }
 
 pub returns-then-not-is_utf8 : goal.returns-then-not-is_utf8
 returns-then-not-is_utf8 c =
-    let tree = c.args.tree.now in
-    let p = span-is tree _ _ _ _ c.text_span-text.ensures.0 c.text_span-text.ensures.1 in
-    sym (sym c.loop-file.invariant ∙ stops tree _ c.loop-file.file _ _ (omega arith) p c.is_utf8.ensures c.if-not-is_utf8.true)
+    sym (sym c.loop-k.invariant ∙ stops c.args.tree.now _ c.loop-k.k _ _ (omega arith) c.text.ensures c.is_utf8.ensures c.if-not-is_utf8.true)
 
-pub loop-file-preserved : goal.loop-file-preserved
-loop-file-preserved c =
-    let tree = c.args.tree.now in
-    let p = span-is tree _ _ _ _ c.text_span-text.ensures.0 c.text_span-text.ensures.1 in
-    goes_on tree _ c.loop-file.file _ _ (omega arith) p c.is_utf8.ensures c.if-not-is_utf8.false ∙ c.loop-file.invariant
+pub loop-k-preserved : goal.loop-k-preserved
+loop-k-preserved c =
+    goes_on c.args.tree.now _ c.loop-k.k _ _ (omega arith) c.text.ensures c.is_utf8.ensures c.if-not-is_utf8.false ∙ c.loop-k.invariant
 
 pub returns : goal.returns
-returns c = sym (sym c.loop-file.invariant ∙ texts-end _ _ c.loop-file.file c.loop-file-test.false)
+returns c = sym (sym c.loop-k.invariant ∙ texts-end _ _ c.loop-k.k c.loop-k-test.false)

@@ -10,8 +10,5 @@ use Rattle.tree.proofs.texts_good.Given as goal
 abbrev pub rest : List ℕ → (n k : ℕ) → Bool
 rest tree n k = texts_good (sources_from tree (n - k) k (4 + 16 * k))
 
-abbrev pub invariant-loop-file : goal.invariant-loop-file
-invariant-loop-file l = rest l.tree l.n l.file ≡ texts_good (sources l.tree)
-
-abbrev pub decreases-loop-file : goal.decreases-loop-file
-decreases-loop-file l = l.n - l.file
+abbrev pub invariant-loop-k : goal.invariant-loop-k
+invariant-loop-k l = rest l.tree l.n l.k ≡ texts_good (sources l.tree)
