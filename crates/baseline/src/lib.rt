@@ -133,7 +133,7 @@ fn digits(s: &[u8], limit: u64) -> Numeral
 pub fn number(s: &[u8], limit: u64) -> Numeral
     ensures { number_of result ≡ parse_number limit s.now }
 {
-    if utf8::byte(s, 0) == PLUS {
+    if seek::byte(s, 0) == PLUS {
         return digits(&s[1..], limit);
     }
     digits(s, limit)
@@ -187,7 +187,7 @@ fn entry_with(line: &[u8], a: usize) -> Line
     requires { (a ≡ bytes_before tab line.now) × (a ≤ length line.now) }
     ensures { Inside line.now result × (entry_in line.now result ≡ entry_of line.now) × PathEnds result a }
 {
-    if utf8::byte(line, 0) == HASH {
+    if seek::byte(line, 0) == HASH {
         return Line::Nothing;
     }
     if a == line.len() {

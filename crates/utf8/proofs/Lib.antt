@@ -1,4 +1,3 @@
 -- Laws that the proofs of several functions cite.
-mod Rows
 mod Wide
 mod White

@@ -1,11 +1,16 @@
 -- White space at a place `at` of a text `s`: its length there, and one step of the walks to its two ends.
 use Prim.Native.Nat.{ℕ, zero, suc, ◌+◌, ◌≤◌, ◌<◌}
 use mathlib.Core.Path.{◌≡◌, refl, ap, sym, ◌∙◌}
-use mathlib.Core.Logic.{◌≢◌}
+use mathlib.Core.Logic.{◌≢◌, inl, inr}
+use lib.Dec.{ltb}
+use borrow.Author.Tests.{ltb-false, ltb-true}
+use Rattle.text_rules.specs.BytesLaws.{whether}
 use mathlib.Core.List.{List, [], ◌∷◌}
 use native.Mathlib.Nat.{add-zero}
 use native.Mathlib.Numerals.{add-one}
 use native.Mathlib.Omega.{arith}
+use Rattle.std.specs.Prelude.{None, Some}
+use Rattle.utf8.specs.Awaits.{some_length}
 use lib.ListN.{drop, drop_of_length-le, get_or, length, length-drop}
 use lib.Seq.{drop-drop, get_or-drop}
 use Rattle.text_rules.proofs.ScanLaws.{split}
@@ -97,3 +102,20 @@ module _ (s : List ℕ) (at : ℕ) (h : length s ≤ at) where
   pub text-last : (end : ℕ) → text_end end at 0 (drop at s) ≡ end
   unfolding text_end
   text-last end = ap (text_end end at 0) (drop_of_length-le s h)
+
+-- what a length tells that is none for 0
+pub no_length : (w : ℕ) → None ≡ some_length w → w ≡ 0
+no_length zero e = refl
+no_length (suc w) e = cc
+
+pub a_length : (w n : ℕ) → Some n ≡ some_length w → (n ≡ w) × (w ≢ 0)
+a_length zero n e = cc
+a_length (suc w) n e = let z : n ≡ suc w = cc in (z, λ y. omega arith)
+
+-- where no white space stands, at the text's end too
+pub white_done : (s : List ℕ) (at : ℕ) → None ≡ some_length (white_length (drop at s)) → white_end at 0 (drop at s) ≡ at
+white_done s at e =
+    elim (whether (ltb at (length s))) [
+      | inl t ↦ white_stop s at (ltb-true at (length s) t) (no_length _ e)
+      | inr t ↦ white_last s at (ltb-false at (length s) t)
+    ]

@@ -3,6 +3,7 @@ use Prim.Native.Nat.{ℕ, zero, suc, ◌+◌, ◌-◌, ◌≤◌, ◌<◌}
 use mathlib.Core.Path.{◌≡◌, ap, sym, ◌∙◌}
 use mathlib.Core.Logic.{◌≢◌, inl, inr}
 use mathlib.Core.Bool.{true, false, ◌&&◌}
+use Rattle.std.specs.Prelude.{None, Some}
 use mathlib.Core.List.{List, [], ◌∷◌}
 use native.Mathlib.Nat.{add-zero}
 use native.Mathlib.Omega.{arith}
@@ -57,41 +58,40 @@ unfolding is_utf8 well_formed_after
 utf8-end s at h = ap (well_formed_after []) (drop_of_length-le s h)
 
 module _ (s : List ℕ) (at : ℕ) (h : at < length s) where
-  ill-formed : is_utf8 (drop at s) ≡ false → Character s at 0
-  ill-formed e = record { ill = λ z. e; well = λ z. absurd (omega arith); inside = omega arith }
+  well-formed : (n : ℕ) → 1 ≤ n → at + n ≤ length s → is_utf8 (drop at s) ≡ is_utf8 (drop (at + n) s) → Character s at (Some n)
+  well-formed n l k e = record { long = l; well = e; inside = k }
 
-  well-formed : (n : ℕ) → 1 ≤ n → at + n ≤ length s → is_utf8 (drop at s) ≡ is_utf8 (drop (at + n) s) → Character s at n
-  well-formed n l k e = record { ill = λ z. absurd (omega arith); well = λ z. e; inside = k }
+  -- no row begins with it
+  pub none-begun : Row (get_or s at 0) None → Character s at None
+  unfolding is_utf8 well_formed_after
+  none-begun row = ap (well_formed_after []) (split s at h) ∙ ap (λ f. go_on f (λ rs. well_formed_after rs (drop (at + 1) s))) (sym row.row_is)
 
-  module _ (a : Awaited) (row : Row (get_or s at 0) a) where
+  module _ (a : Awaited) (row : Row (get_or s at 0) (Some a)) where
     begun : is_utf8 (drop at s) ≡ go_on (row_of a.count a.low a.high) (λ rs. well_formed_after rs (drop (at + 1) s))
     unfolding is_utf8 well_formed_after
     begun = ap (well_formed_after []) (split s at h) ∙ ap (λ f. go_on f (λ rs. well_formed_after rs (drop (at + 1) s))) (sym row.row_is)
 
-    pub none_asked : a.count ≡ 0 → Character s at 0
-    none_asked z = ill-formed (begun ∙ rw z)
-
     -- what the first byte asks of the second
     second : (n : ℕ) → a.count ≡ suc n
         → is_utf8 (drop at s) ≡ (within (get_or s (at + 1) 0) (a.low to a.high) && well_formed_after (tails n) (drop (at + 2) s))
-    second n z = begun ∙ rw z (after-step s (at + 1) (at + 2) (omega arith) (a.low to a.high) (tails n) (omega (arith, row.high)))
+    second n z = begun ∙ rw z (after-step s (at + 1) (at + 2) (omega arith) (a.low to a.high) (tails n) (omega (arith, row.asked.high)))
 
-    pub second-fails : a.count ≢ 0 → within (get_or s (at + 1) 0) (a.low to a.high) ≡ false → Character s at 0
-    second-fails n t = ill-formed (second (a.count - 1) (omega arith) ∙ rw t)
+    pub second-fails : within (get_or s (at + 1) 0) (a.low to a.high) ≡ false → Character s at None
+    second-fails t = second (a.count - 1) (omega (arith, row.asked.some)) ∙ rw t
 
     module _ (t2 : within (get_or s (at + 1) 0) (a.low to a.high) ≡ true) where
-      pub two : a.count ≡ 1 → Character s at 2
+      pub two : a.count ≡ 1 → Character s at (Some 2)
       unfolding is_utf8
-      two z = well-formed 2 (omega arith) (omega (arith, awaited_inside s (at + 1) (a.low to a.high) (omega (arith, row.high)) t2)) (second 0 z ∙ rw t2)
+      two z = well-formed 2 (omega arith) (omega (arith, awaited_inside s (at + 1) (a.low to a.high) (omega (arith, row.asked.high)) t2)) (second 0 z ∙ rw t2)
 
       third : (n : ℕ) → a.count ≡ suc (suc n) → is_utf8 (drop at s) ≡ (within (get_or s (at + 2) 0) (0x80 to 0xBF) && well_formed_after (tails n) (drop (at + 3) s))
       third n z = second (suc n) z ∙ rw t2 (after-step s (at + 2) (at + 3) (omega arith) (0x80 to 0xBF) (tails n) (lit≤ tt))
 
-      pub third-fails : a.count ≢ 0 → a.count ≢ 1 → within (get_or s (at + 2) 0) (0x80 to 0xBF) ≡ false → Character s at 0
-      third-fails m n t = ill-formed (third (a.count - 2) (omega arith) ∙ rw t)
+      pub third-fails : a.count ≢ 1 → within (get_or s (at + 2) 0) (0x80 to 0xBF) ≡ false → Character s at None
+      third-fails n t = third (a.count - 2) (omega (arith, row.asked.some)) ∙ rw t
 
       module _ (t3 : within (get_or s (at + 2) 0) (0x80 to 0xBF) ≡ true) where
-        pub three : a.count ≡ 2 → Character s at 3
+        pub three : a.count ≡ 2 → Character s at (Some 3)
         unfolding is_utf8
         three z = well-formed 3 (omega arith) (omega (arith, awaited_inside s (at + 2) (0x80 to 0xBF) (lit≤ tt) t3)) (third 0 z ∙ rw t3)
 
@@ -99,8 +99,8 @@ module _ (s : List ℕ) (at : ℕ) (h : at < length s) where
         unfolding is_utf8
         fourth z = third 1 z ∙ rw t3 (after-step s (at + 3) (at + 4) (omega arith) (0x80 to 0xBF) [] (lit≤ tt))
 
-        pub fourth-fails : a.count ≡ 3 → within (get_or s (at + 3) 0) (0x80 to 0xBF) ≡ false → Character s at 0
-        fourth-fails z t = ill-formed (fourth z ∙ rw t)
+        pub fourth-fails : a.count ≡ 3 → within (get_or s (at + 3) 0) (0x80 to 0xBF) ≡ false → Character s at None
+        fourth-fails z t = fourth z ∙ rw t
 
-        pub four : a.count ≡ 3 → within (get_or s (at + 3) 0) (0x80 to 0xBF) ≡ true → Character s at 4
+        pub four : a.count ≡ 3 → within (get_or s (at + 3) 0) (0x80 to 0xBF) ≡ true → Character s at (Some 4)
         four z t = well-formed 4 (omega arith) (omega (arith, awaited_inside s (at + 3) (0x80 to 0xBF) (lit≤ tt) t)) (fourth z ∙ rw t)

@@ -5,8 +5,8 @@ use lib.ListN.{drop, length}
 use Rattle.text_rules.specs.Utf8.{is_utf8}
 use Rattle.utf8.proofs.is_utf8.Given as goal
 
-abbrev pub invariant-loop-at : goal.invariant-loop-at
-invariant-loop-at l = (l.asked ≤ l.at) × (l.at ≤ length l.s) × (is_utf8 (drop l.at l.s) ≡ is_utf8 l.s)
+abbrev pub invariant-loop-place : goal.invariant-loop-place
+invariant-loop-place l = (l.place.asked ≤ l.place.at) × (l.place.at ≤ length l.s) × (is_utf8 (drop l.place.at l.s) ≡ is_utf8 l.s)
 
-abbrev pub decreases-loop-at : goal.decreases-loop-at
-decreases-loop-at l = length l.s - l.at
+abbrev pub decreases-loop-place : goal.decreases-loop-place
+decreases-loop-place l = length l.s - l.place.at

@@ -1,7 +1,0 @@
--- A place inside the text reads its byte; past the end `get_or` gives 0.
-use mathlib.Core.Path.{sym}
-use lib.ListN.{get_or-eq_default}
-use Rattle.utf8.proofs.byte.Goals as goal
-
-pub returns-else-at-s : goal.returns-else-at-s
-returns-else-at-s c = sym (get_or-eq_default c.args.s.now 0 c.if-at-s.false)
