@@ -4,62 +4,18 @@ use mathlib.Core.Path.{◌≡◌, refl, ap, sym, ◌∙◌}
 use mathlib.Core.Logic.{◌≢◌, inl, inr}
 use mathlib.Core.Bool.{true, false, ◌||◌}
 use mathlib.Core.List.{List, [], ◌∷◌}
-use native.Mathlib.Numerals.{add-one}
 use native.Mathlib.Omega.{arith}
 use lib.Dec.{eqb}
 use lib.ListN.{drop, drop_of_length-le, get_or, length}
-use borrow.Author.Tests.{eq-eqb, eqb-true, ne_eqb}
-use Rattle.text_rules.specs.Bytes.{ascii}
-use Rattle.text_rules.specs.BytesLaws.{or_cases}
+use borrow.Author.Tests.{eq-eqb, eqb-false, eqb-true, ne_eqb}
+use Rattle.text_rules.specs.BytesLaws.{whether}
+use Rattle.text_rules.proofs.TextSteps.{begins-end, begins-none}
 use Rattle.text_rules.specs.Classes.{ampersand, comma, space}
 use Rattle.text_rules.proofs.ScanLaws.{split}
 use Rattle.text_rules.specs.Search.{ends_in, part, run, starts_with}
 use Rattle.text_rules.specs.WhiteSpace.{text_end, trimmed, white_end}
-use Rattle.source_rules.specs.Parameters.{counted, is_closing, is_opening, one, params_of, parts_from, squeezed, takes_self}
-use Rattle.source_rules.proofs.WalkSteps.{parts-step}
+use Rattle.source_rules.specs.Parameters.{counted, one, params_of, parts_from, squeezed, takes_self}
 use Rattle.params.specs.Head.{head}
-
--- a bracket is no comma, and an opening one does not close
-opening_only : (b : ℕ) → is_opening b ≡ true → (eqb b comma ≡ false) × (is_closing b ≡ false)
-unfolding is_opening is_closing
-opening_only b e =
-    elim (or_cases (eqb b 40 || eqb b 91) _ e) [
-      | inl t ↦ elim (or_cases (eqb b 40) _ t) [ inl u ↦ rw (eqb-true b 40 u) (refl, refl) | inr u ↦ rw (eqb-true b 91 u) (refl, refl) ]
-      | inr t ↦ rw (eqb-true b 60 t) (refl, refl)
-    ]
-
-closing-only : (b : ℕ) → is_closing b ≡ true → eqb b comma ≡ false
-unfolding is_closing
-closing-only b e =
-    elim (or_cases (eqb b 41 || eqb b 93) _ e) [
-      | inl t ↦ elim (or_cases (eqb b 41) _ t) [ inl u ↦ rw (eqb-true b 41 u) | inr u ↦ rw (eqb-true b 93 u) ]
-      | inr t ↦ rw (eqb-true b 62 t)
-    ]
-
--- the ways of a step of the count
-module _ (s : List ℕ) (at : ℕ) (h : at < length s) (n opened closed : ℕ) where
-  abbrev b : ℕ
-  b = get_or s at 0
-
-  abbrev rest : List ℕ
-  rest = drop (at + 1) s
-
-  pub parts_open : is_opening b ≡ true → parts_from n opened closed (drop at s) ≡ parts_from n (opened + 1) closed rest
-  parts_open e = parts-step s at h n opened closed ∙ rw (e, (opening_only b e).0, (opening_only b e).1, add-one opened)
-
-  module _ (o : is_opening b ≡ false) where
-    pub parts_close : is_closing b ≡ true → parts_from n opened closed (drop at s) ≡ parts_from n opened (closed + 1) rest
-    parts_close e = parts-step s at h n opened closed ∙ rw (o, e, closing-only b e, add-one closed)
-
-    module _ (c : is_closing b ≡ false) where
-      pub parts-comma : b ≡ comma → opened ≡ closed → parts_from n opened closed (drop at s) ≡ parts_from (n + 1) opened closed rest
-      parts-comma e d = parts-step s at h n opened closed ∙ rw (o, c, eq-eqb b comma e, eq-eqb opened closed d, add-one n)
-
-      pub parts-inner : b ≡ comma → opened ≢ closed → parts_from n opened closed (drop at s) ≡ parts_from n opened closed rest
-      parts-inner e d = parts-step s at h n opened closed ∙ rw (o, c, eq-eqb b comma e, ne_eqb opened closed d)
-
-      pub parts-other : b ≢ comma → parts_from n opened closed (drop at s) ≡ parts_from n opened closed rest
-      parts-other e = parts-step s at h n opened closed ∙ rw (o, c, ne_eqb b comma e)
 
 -- the head of a byte b and the rest r
 module _ (b : ℕ) (r : List ℕ) where
@@ -93,16 +49,6 @@ module _ (s : List ℕ) (at : ℕ) where
       pub head-keeps : (eqb (get_or s at 0) ampersand || eqb (get_or s at 0) space) ≡ false → head (drop at s) ≡ get_or s at 0 ∷ head (drop (at + 1) s)
       head-keeps t = ap head (split s at h) ∙ keeps (get_or s at 0) (drop (at + 1) s) (ne_eqb _ _ n) t
 
--- self is one of two words
-module _ (s : List ℕ) where
-  pub self-first : starts_with (ascii "self") (head s) ≡ true → takes_self s ≡ true
-  unfolding takes_self
-  self-first e = rw e
-
-  pub self-second : starts_with (ascii "self") (head s) ≡ false → takes_self s ≡ starts_with (ascii "mutself") (head s)
-  unfolding takes_self
-  self-second e = rw e
-
 -- the count put together
 pub counted-some : (s : List ℕ) → 1 ≤ length s → counted s ≡ parts_from 1 0 0 s - one (ends_in comma s) - one (takes_self s)
 counted-some [] h = absurd (omega arith)
@@ -115,3 +61,11 @@ module _ (s : List ℕ) (from to : ℕ) (f : from ≡ white_end 0 0 s) (t : to �
 
   pub params_none : to ≤ from → params_of s ≡ 0
   params_none h = let z : to - from ≡ 0 = omega arith in sym params-part ∙ rw z
+
+-- at the text's end the word is told if it was matched
+pub told_end : (word : List ℕ) (m : ℕ) (s : List ℕ) (at : ℕ) → m ≤ length word → length s ≤ at → eqb m (length word) ≡ starts_with (drop m word) (head (drop at s))
+told_end word m s at h e =
+    elim (whether (eqb m (length word))) [
+      | inl t ↦ t ∙ sym (begins-end word m (head (drop at s)) (omega (arith, eqb-true m (length word) t)))
+      | inr t ↦ t ∙ sym (begins-none word m (omega (arith, eqb-false m (length word) t)) (head (drop at s)) (head-end s at e))
+    ]

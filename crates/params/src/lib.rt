@@ -2,44 +2,11 @@
 // `self`. A list is counted between its first and its last byte that are not of white space.
 #![tactic(auto)]
 
-ghost use Rattle.std.specs.Prelude.{◌≡◌, ◌||◌, ◌+◌, ◌-◌, ◌≤◌, ◌<◌, eqb, length};
+ghost use Rattle.std.specs.Prelude.{◌≡◌, ◌+◌, ◌≤◌, ◌<◌, length};
 ghost use Rattle.text_rules.specs.Classes.{comma};
 ghost use Rattle.text_rules.specs.Search.{ends_in, starts_with};
-ghost use Rattle.source_rules.specs.Parameters.{counted, is_closing, is_opening, one, params_of, parts_from, takes_self};
+ghost use Rattle.source_rules.specs.Parameters.{counted, params_of, parts_from, takes_self};
 ghost use Rattle.params.specs.Head.{head};
-
-// Whether a byte is one of two.
-fn either(b: u8, x: u8, y: u8) -> bool
-    ensures { result ≡ (eqb b x || eqb b y) }
-{
-    if b == x { true } else { b == y }
-}
-
-// Whether a byte is one of three.
-fn one_of(b: u8, x: u8, y: u8, z: u8) -> bool
-    ensures { result ≡ (eqb b x || eqb b y || eqb b z) }
-{
-    if b == x {
-        return true;
-    }
-    if b == y {
-        return true;
-    }
-    b == z
-}
-
-// The three kinds of brackets that are counted together.
-fn is_opening(b: u8) -> bool
-    ensures { result ≡ is_opening b }
-{
-    one_of(b, b'(', b'[', b'<')
-}
-
-fn is_closing(b: u8) -> bool
-    ensures { result ≡ is_closing b }
-{
-    one_of(b, b')', b']', b'>')
-}
 
 // The number of parts between the commas at depth 0. The depth may fall below 0, so what was opened and what was closed is counted apart.
 fn parts(s: &[u8]) -> usize
@@ -48,18 +15,12 @@ fn parts(s: &[u8]) -> usize
     let mut n = 1;
     let mut opened: usize = 0;
     let mut closed: usize = 0;
-    let mut at = 0;
-    while at < s.len() {
-        let b = s[at];
-        at += 1;
-        if is_opening(b) {
-            opened += 1;
-        } else if is_closing(b) {
-            closed += 1;
-        } else if b == b',' {
-            if opened == closed {
-                n += 1;
-            }
+    for b in s {
+        match *b {
+            b'(' | b'[' | b'<' => opened += 1,
+            b')' | b']' | b'>' => closed += 1,
+            b',' if opened == closed => n += 1,
+            _ => {}
         }
     }
     n
@@ -70,44 +31,30 @@ fn head_begins(s: &[u8], word: &[u8]) -> bool
     ensures { result ≡ starts_with word.now (head s.now) }
 {
     let mut matched = 0;
-    let mut at = 0;
-    while matched < word.len() {
-        if s.len() <= at {
-            return false;
+    for b in s {
+        if matched == word.len() {
+            return true;
         }
-        let b = s[at];
-        at += 1;
-        if b == b',' {
-            return false;
-        }
-        if !either(b, b'&', b' ') {
-            if b != word[matched] {
-                return false;
+        match *b {
+            b',' => return false,
+            b'&' | b' ' => {}
+            kept => {
+                if kept != word[matched] {
+                    return false;
+                }
+                matched += 1;
             }
-            matched += 1;
         }
     }
-    true
+    matched == word.len()
 }
 
 // Whether the first part is self; `selfish: u8` counts as self.
+#[tactic(auto, unfolding(source_rules::specs::Parameters::takes_self))]
 fn takes_self(s: &[u8]) -> bool
     ensures { result ≡ takes_self s.now }
 {
-    if head_begins(s, b"self") {
-        return true;
-    }
-    head_begins(s, b"mutself")
-}
-
-// One less where a test passes. It stops at 0, below which a list such as `self>,` would fall.
-fn less_one(n: usize, test: bool) -> usize
-    ensures { result ≡ n - one test }
-{
-    if !test {
-        return n;
-    }
-    if n == 0 { 0 } else { n - 1 }
+    head_begins(s, b"self") || head_begins(s, b"mutself")
 }
 
 // Whether the last byte is a comma.
@@ -123,7 +70,10 @@ fn count_trimmed(s: &[u8]) -> usize
     requires { 0 < length s.now }
     ensures { result ≡ counted s.now }
 {
-    less_one(less_one(parts(s), ends_in_comma(s)), takes_self(s))
+    // It stops at 0, below which a list such as `self>,` would fall.
+    parts(s)
+        .saturating_sub(usize::from(ends_in_comma(s)))
+        .saturating_sub(usize::from(takes_self(s)))
 }
 
 // The parameters of the text between the brackets, without self.

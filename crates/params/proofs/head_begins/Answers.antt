@@ -1,84 +1,56 @@
--- What is left of the word against the head of the rest is the word against the head of the whole.
-use Prim.Native.Nat.{◌+◌}
-use mathlib.Core.Path.{◌∙◌, ap, refl, sym}
-use native.Mathlib.Omega.{arith}
-use lib.ListN.{drop, get_or}
+-- Each byte stops the head, is left out of it, or is its next.
+use Rattle.std.proofs.Common.{arith, ◌≡◌, ◌≢◌, ◌||◌, true, false, get_or, drop, ap, sym, ◌∙◌, ◌+◌}
+use Rattle.std.proofs.lemmas.Bool.Decides.{nat_tests}
+use lib.Dec.{eqb}
+use Rattle.text_rules.specs.Classes.{ampersand, space}
 use Rattle.text_rules.specs.Search.{starts_with}
 use Rattle.params.specs.Head.{head}
-use Rattle.params.proofs.List.{head-comma, head-end, head-keeps, head-leaves}
+use Rattle.params.proofs.List.{head-comma, head-keeps, head-leaves, told_end}
 use Rattle.text_rules.proofs.TextSteps.{begins-end, begins-more, begins-none, begins-stop}
 use Rattle.params.proofs.head_begins.Goals as goal
+use Rattle.params.proofs.head_begins.Goals.{in-38, in_default+else-kept-word}
 
-pub loop-matched-init : goal.loop-matched-init
-loop-matched-init c = (omega arith, omega arith, refl)
+pub returns-then-matched-word : goal.returns-then-matched-word
+returns-then-matched-word c =
+    let v = c.loop-b in
+    sym (begins-end c.args.word.now v.matched (head (drop v.b-index c.args.s.now)) (omega arith)) ∙ v.invariant.left
 
-pub returns-then-s-at : goal.returns-then-s-at
-returns-then-s-at c =
-    let a = c.args in
-    let s = a.s.now in
-    let w = a.word.now in
-    let rest = head (drop c.loop-matched.at s) in
-    sym (begins-none w c.loop-matched.matched (omega arith) rest (head-end s c.loop-matched.at c.if-s-at.true)) ∙ c.loop-matched.invariant.2
+pub returns-in-44 : goal.returns-in-44
+returns-in-44 c =
+    let v = c.loop-b in
+    let s = c.args.s.now in
+    sym (begins-none c.args.word.now v.matched (omega arith) (head (drop v.b-index s)) (head-comma s v.b-index (omega arith) c.in-44.is)) ∙ v.invariant.left
 
-pub bounds-s-at : goal.bounds-s-at
-bounds-s-at c = omega arith
+pub returns-then-kept-word : goal.returns-then-kept-word
+returns-then-kept-word c =
+    let v = c.loop-b in
+    let s = c.args.s.now in
+    let b = get_or s v.b-index 0 in
+    let no_comma : b ≢ 44 = omega arith in
+    let kept : (eqb b ampersand || eqb b space) ≡ false = grind (arith, nat_tests) in
+    sym (begins-stop c.args.word.now v.matched (omega arith) (head (drop v.b-index s)) b (head (drop (v.b-index + 1) s)) (head-keeps s v.b-index (omega arith) no_comma kept) c.if-kept-word.true) ∙ v.invariant.left
 
-pub overflow_add-at : goal.overflow_add-at
-overflow_add-at c = omega arith
-
-pub returns-then-b-eq44 : goal.returns-then-b-eq44
-returns-then-b-eq44 c =
-    let a = c.args in
-    let s = a.s.now in
-    let w = a.word.now in
-    let rest = head (drop c.loop-matched.at s) in
-    sym (begins-none w c.loop-matched.matched (omega arith) rest (head-comma s c.loop-matched.at (omega arith) c.if-b-eq44.true)) ∙ c.loop-matched.invariant.2
-
-pub either-requires : goal.either-requires
-either-requires c = omega arith
-
-pub bounds-word-matched : goal.bounds-word-matched
-bounds-word-matched c = omega arith
-
-pub returns-then-b-word : goal.returns-then-b-word
-returns-then-b-word c =
-    let a = c.args in
-    let s = a.s.now in
-    let w = a.word.now in
-    let rest = head (drop c.loop-matched.at s) in
-    let kept = head-keeps s c.loop-matched.at (omega arith) c.if-b-eq44.false (sym c.either.ensures ∙ c.if-not-either.true) in
-    sym (begins-stop w c.loop-matched.matched (omega arith) rest (get_or s c.loop-matched.at 0) (head (drop (c.loop-matched.at + 1) s)) kept c.if-b-word.true) ∙ c.loop-matched.invariant.2
-
-pub overflow_add-matched : goal.overflow_add-matched
-overflow_add-matched c = omega arith
-
-pub loop-matched-smaller-then-not-either : goal.loop-matched-smaller-then-not-either
-loop-matched-smaller-then-not-either c = omega arith
-
-pub loop-matched-preserved-then-not-either : goal.loop-matched-preserved-then-not-either
-loop-matched-preserved-then-not-either c =
-    let a = c.args in
-    let s = a.s.now in
-    let w = a.word.now in
-    let rest = head (drop c.loop-matched.at s) in
-    let kept = head-keeps s c.loop-matched.at (omega arith) c.if-b-eq44.false (sym c.either.ensures ∙ c.if-not-either.true) in
-    (omega arith, omega arith, sym (begins-more w c.loop-matched.matched (omega arith) rest (get_or s c.loop-matched.at 0) (head (drop (c.loop-matched.at + 1) s)) kept c.if-b-word.false) ∙ c.loop-matched.invariant.2)
-
-pub loop-matched-smaller : goal.loop-matched-smaller
-loop-matched-smaller c = omega arith
-
-pub loop-matched-preserved : goal.loop-matched-preserved
-loop-matched-preserved c =
-    let a = c.args in
-    let s = a.s.now in
-    let w = a.word.now in
-    let left = head-leaves s c.loop-matched.at (omega arith) c.if-b-eq44.false (sym c.either.ensures ∙ c.if-not-either.false) in
-    (omega arith, omega arith, ap (starts_with (drop c.loop-matched.matched w)) (sym left) ∙ c.loop-matched.invariant.2)
+pub loop-b-preserved : goal.loop-b-preserved
+loop-b-preserved c =
+    let v = c.loop-b in
+    let s = c.args.s.now in
+    let word = c.args.word.now in
+    let at = v.b-index in
+    let b = get_or s at 0 in
+    elim c.match-b.branch [
+      | in-38 w ↦
+          let no_comma : b ≢ 44 = grind arith in
+          let left_out : (eqb b ampersand || eqb b space) ≡ true = grind (arith, nat_tests) in
+          let e = ap (starts_with (drop v.matched word)) (sym (head-leaves s at (omega arith) no_comma left_out)) ∙ v.invariant.left in
+          record { in_word = omega arith; left = rw w.matched-is e }
+      | in_default+else-kept-word w ↦
+          let no_comma : b ≢ 44 = omega arith in
+          let kept : (eqb b ampersand || eqb b space) ≡ false = grind (arith, nat_tests) in
+          let e = sym (begins-more word v.matched (omega arith) (head (drop at s)) b (head (drop (at + 1) s)) (head-keeps s at (omega arith) no_comma kept) w.if-kept-word.false) ∙ v.invariant.left in
+          record { in_word = omega arith; left = rw w.matched-is e }
+    ]
 
 pub returns : goal.returns
 returns c =
-    let a = c.args in
-    let s = a.s.now in
-    let w = a.word.now in
-    let rest = head (drop c.loop-matched.at s) in
-    sym (begins-end w c.loop-matched.matched rest c.loop-matched-test.false) ∙ c.loop-matched.invariant.2
+    let v = c.loop-b in
+    told_end c.args.word.now v.matched c.args.s.now v.b-index v.invariant.in_word (omega arith) ∙ v.invariant.left
