@@ -15,7 +15,7 @@ ghost use Rattle.gate_scan.specs.Told.{Small, TextsIn, records_for, told};
 
 use answers::Answer;
 use records::Record;
-use source::{Found, Step};
+use source::Found;
 
 // The most functions of a tree.
 const MAX_FUNCTIONS: usize = 8192;
@@ -99,21 +99,13 @@ fn scan_text(
     windows::clear(noted);
     chunks::clear(sums);
     memo::forget(kept, 0);
-    let mut c = source::start(s);
+    let mut cursor = source::start(s);
     let mut n = done;
-    loop {
-        let step = c.next(s, noted, sums, kept);
-        match step {
-            Step::Function(f, d) => {
-                put_numbered(lent, n, record_of(number, place, f));
-                n += 1;
-                c = d;
-            }
-            Step::End => {
-                return n;
-            }
-        }
+    while let Some(f) = cursor.next(noted, sums, kept) {
+        put_numbered(lent, n, record_of(number, place, f));
+        n += 1;
     }
+    n
 }
 
 // The records of the texts that stand blanked in work, file by file; answers how many functions there are.

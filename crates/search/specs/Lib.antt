@@ -1,3 +1,4 @@
 -- A place as the code tells it, what is known of braces, and the laws of searches that find nothing.
 pub mod EndLaws
+pub mod Learned
 pub mod Place

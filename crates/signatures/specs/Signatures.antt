@@ -1,5 +1,5 @@
 -- The search for the end of a list of parameters and for the brace of the body behind it, and what it answers.
-use Rattle.std.specs.Prelude.{ℕ, ◌+◌, ◌-◌, ◌≤◌, ◌≡◌, ◌≢◌, List, length, Some}
+use Rattle.std.specs.Prelude.{ℕ, ◌+◌, ◌-◌, ◌≤◌, ◌≡◌, ◌≢◌, List, length, Option, None, Some}
 use Rattle.std.proofs.Common.{ap, subst, sym, ◌∙◌, arith}
 use Rattle.std.proofs.Math.Option.{none, some}
 use Rattle.text_rules.specs.BytesLaws.{some_same}
@@ -9,8 +9,7 @@ use Rattle.flat.specs.declared.Counts.{Counts}
 use Rattle.chunks.specs.Passing.{TellsDepth}
 use Rattle.memo.specs.Memo.{Recalls, Tells}
 use Rattle.parts.specs.Told.{Lent, NoBody, Told, body_behind, never, no-brace, no_end, sought_from}
-use Rattle.signatures.specs.declared.Sought.{Sought}
-use Rattle.signatures.specs.declared.Sought.TheVariants.{Both, Broken}
+use Rattle.signatures.specs.declared.Signature.{Signature}
 
 -- what is lent to searches in a text, and the searches for a body that are kept
 abbrev pub Lends : (s m t f : List ℕ) → Type 0
@@ -42,23 +41,23 @@ told-body s at first second closed t e n m z =
     subst (λ p. body_behind s p ≡ some (second - 1)) one (t.brace n m z)
 
 -- what follows a bracket that stands before a place
-abbrev pub Begins : List ℕ → (from : ℕ) → Sought → Type 0
-Begins s from (Both closed body) = (sought_from s from 0 ≡ some closed) × (body_behind s closed ≡ some body)
-Begins s from Broken = NoBody s from
+abbrev pub Begins : List ℕ → (from : ℕ) → Option Signature → Type 0
+Begins s from (Some r) = (sought_from s from 0 ≡ some r.closed) × (body_behind s r.closed ≡ some r.body)
+Begins s from None = NoBody s from
 
 -- what follows a list that ends at a place
-abbrev pub Follows : List ℕ → (closed : ℕ) → Sought → Type 0
-Follows s closed (Both c body) = (closed ≡ c) × (body_behind s closed ≡ some body)
-Follows s closed Broken = body_behind s closed ≡ none
+abbrev pub Follows : List ℕ → (closed : ℕ) → Option Signature → Type 0
+Follows s closed (Some r) = (closed ≡ r.closed) × (body_behind s closed ≡ some r.body)
+Follows s closed None = body_behind s closed ≡ none
 
-pub follows_begins : (s : List ℕ) (from closed : ℕ) (r : Sought) → sought_from s from 0 ≡ some closed → Follows s closed r → Begins s from r
-follows_begins s from closed (Both c body) e f = (e ∙ ap some f.0, subst (λ n. body_behind s n ≡ some body) f.0 f.1)
-follows_begins s from closed Broken e f = no-brace closed e f
+pub follows_begins : (s : List ℕ) (from closed : ℕ) (r : Option Signature) → sought_from s from 0 ≡ some closed → Follows s closed r → Begins s from r
+follows_begins s from closed (Some r) e f = (e ∙ ap some f.0, subst (λ n. body_behind s n ≡ some r.body) f.0 f.1)
+follows_begins s from closed None e f = no-brace closed e f
 
 -- the number by which a search is kept that answers so
-abbrev pub number_for : Sought → ℕ
-number_for (Both closed body) = body + 2
-number_for Broken = 1
+abbrev pub number_for : Option Signature → ℕ
+number_for (Some r) = r.body + 2
+number_for None = 1
 
 -- where the list has an end, it is the body that is missing
 no-body-behind : (s : List ℕ) (from closed : ℕ) → sought_from s from 0 ≡ some closed → NoBody s from → body_behind s closed ≡ none
@@ -66,14 +65,14 @@ no-body-behind s from closed e (no_end n) = let z : ◌≡◌ {A = ℕ} 0 1 = cc
 no-body-behind s from closed e (no-brace c p n) = subst (λ k. body_behind s k ≡ none) (some_same c closed (sym p ∙ e)) n
 
 -- the number tells what a search for the body behind the list finds
-pub begins-tells : (s : List ℕ) (from closed : ℕ) (r : Sought) → sought_from s from 0 ≡ some closed → Begins s from r → Tells (number_for r) (body_behind s closed)
-begins-tells s from closed (Both c body) e b =
-    let brace : body_behind s closed ≡ some body = subst (λ k. body_behind s k ≡ some body) (some_same c closed (sym b.0 ∙ e)) b.1 in
-    let same : body ≡ body + 2 - 2 = omega arith in
+pub begins-tells : (s : List ℕ) (from closed : ℕ) (r : Option Signature) → sought_from s from 0 ≡ some closed → Begins s from r → Tells (number_for r) (body_behind s closed)
+begins-tells s from closed (Some r) e b =
+    let brace : body_behind s closed ≡ some r.body = subst (λ k. body_behind s k ≡ some r.body) (some_same r.closed closed (sym b.0 ∙ e)) b.1 in
+    let same : r.body ≡ r.body + 2 - 2 = omega arith in
     record { nowhere = λ n. absurd (omega (arith, n)); brace = λ l. brace ∙ ap some same }
-begins-tells s from closed Broken e b = record { nowhere = λ n. no-body-behind s from closed e b; brace = λ l. absurd (omega (arith, l)) }
+begins-tells s from closed None e b = record { nowhere = λ n. no-body-behind s from closed e b; brace = λ l. absurd (omega (arith, l)) }
 
 -- a brace that is told stands inside the text, so the number is not much higher than the text is long
-pub number-most : (s : List ℕ) (from : ℕ) (r : Sought) → Begins s from r → number_for r ≤ length s + 1
-number-most s from (Both c body) b = omega (arith, body-place s (c + 1) body b.1)
-number-most s from Broken b = omega arith
+pub number-most : (s : List ℕ) (from : ℕ) (r : Option Signature) → Begins s from r → number_for r ≤ length s + 1
+number-most s from (Some r) b = omega (arith, body-place s (r.closed + 1) r.body b.1)
+number-most s from None b = omega arith

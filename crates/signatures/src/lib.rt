@@ -13,7 +13,7 @@ ghost use Rattle.parts.specs.Told.{Lent, body_behind, sought_from};
 ghost use Rattle.signatures.specs.Signatures.{Begins, Follows, Lends, nothing_counted, number_for};
 
 use flat::{Counts, Reached};
-use search::{Met, Place};
+use search::Met;
 
 // The bytes in which a list is sought first, and a body: most end before that, and nothing is noted for them.
 const NEAR: usize = 4096;
@@ -31,7 +31,7 @@ fn look_up(s: &[u8], from: usize, m: &mut [u32; 4099], t: &mut [u16; 36865])
 }
 
 // The partner of a `(`, sought to the end of the text from a place at which so many are open inside it. Chunks are passed, or read up to the next.
-fn far_end(s: &[u8], t: &[u16; 36865], from: usize, depth: usize) -> Place
+fn far_end(s: &[u8], t: &[u16; 36865], from: usize, depth: usize) -> Option<usize>
     requires { (from ≤ length s.now) × (depth ≤ from) × Summed s.now t.now }
     ensures { place_of result ≡ sought_from s.now from depth }
 {
@@ -49,7 +49,7 @@ fn far_end(s: &[u8], t: &[u16; 36865], from: usize, depth: usize) -> Place
                 let met = search::partner_before(s, b'(', b')', at, to, inner);
                 match met {
                     Met::Partner(p) => {
-                        return Place::At(p);
+                        return Some(p);
                     }
                     Met::Depth(d) => {
                         at = to;
@@ -59,24 +59,18 @@ fn far_end(s: &[u8], t: &[u16; 36865], from: usize, depth: usize) -> Place
             }
         }
     }
-    Place::Nowhere
-}
-
-fn wide(n: u32) -> usize
-    ensures { result ≡ n }
-{
-    n as usize
+    None
 }
 
 // The end of a list and the brace that opens the body behind it.
 #[derive(Clone, Copy)]
-pub enum Sought {
-    Both(usize, usize),
-    Broken,
+pub struct Signature {
+    pub closed: usize,
+    pub body: usize,
 }
 
 // The body behind a list that ends at `closed`, sought to the end of the text from a place with what is counted up to there.
-fn far_body(s: &[u8], t: &[u16; 36865], closed: usize, from: usize, n: Counts) -> Sought
+fn far_body(s: &[u8], t: &[u16; 36865], closed: usize, from: usize, n: Counts) -> Option<Signature>
     requires { (from ≤ length s.now)
         × Counted n from
         × (body_behind s.now closed ≡ body_from s.now from n)
@@ -85,9 +79,9 @@ fn far_body(s: &[u8], t: &[u16; 36865], closed: usize, from: usize, n: Counts) -
 {
     let met = memo::body_until(s, t, from, s.len(), n);
     match met {
-        Reached::Brace(body) => Sought::Both(closed, body),
-        Reached::Ended(_) => Sought::Broken,
-        Reached::Further(_) => Sought::Broken,
+        Reached::Brace(body) => Some(Signature { closed, body }),
+        Reached::Ended(_) => None,
+        Reached::Further(_) => None,
     }
 }
 
@@ -103,7 +97,7 @@ fn nothing() -> Counts
 }
 
 // The body behind a list that ends at `closed`, sought to the end of the text.
-fn body_behind(s: &[u8], t: &[u16; 36865], closed: usize) -> Sought
+fn body_behind(s: &[u8], t: &[u16; 36865], closed: usize) -> Option<Signature>
     requires { (closed < length s.now) × Summed s.now t.now }
     ensures { Follows s.now closed result }
 {
@@ -111,7 +105,7 @@ fn body_behind(s: &[u8], t: &[u16; 36865], closed: usize) -> Sought
 }
 
 // What follows a `(` before `from`, sought to the end of the text from a place at which so many are open inside it.
-fn far_list(s: &[u8], t: &[u16; 36865], from: usize, at: usize, depth: usize) -> Sought
+fn far_list(s: &[u8], t: &[u16; 36865], from: usize, at: usize, depth: usize) -> Option<Signature>
     requires { (at ≤ length s.now)
         × (depth ≤ at)
         × (sought_from s.now from 0 ≡ sought_from s.now at depth)
@@ -120,8 +114,8 @@ fn far_list(s: &[u8], t: &[u16; 36865], from: usize, at: usize, depth: usize) ->
 {
     let end = far_end(s, t, at, depth);
     match end {
-        Place::At(closed) => body_behind(s, t, closed),
-        Place::Nowhere => Sought::Broken,
+        Some(closed) => body_behind(s, t, closed),
+        None => None,
     }
 }
 
@@ -133,7 +127,7 @@ fn noted_list(
     depth: usize,
     m: &mut [u32; 4099],
     t: &mut [u16; 36865],
-) -> Sought
+) -> Option<Signature>
     requires { (from ≤ near)
         × (near ≤ length s.now)
         × (depth ≤ near)
@@ -142,21 +136,24 @@ fn noted_list(
     ensures { Begins s.now from result × Lent s.now m.new t.new }
 {
     if near == s.len() {
-        return Sought::Broken;
+        return None;
     }
     look_up(s, from, m, t);
     let p = windows::pair_at(m, from);
     if p.first == parts::NEVER {
-        return Sought::Broken;
+        return None;
     }
     if p.first == 0 {
         return far_list(s, t, from, near, depth);
     }
-    let closed = wide(p.first) - 1;
+    let closed = p.first as usize - 1;
     if p.second == 0 {
         return body_behind(s, t, closed);
     }
-    Sought::Both(closed, wide(p.second) - 1)
+    Some(Signature {
+        closed,
+        body: p.second as usize - 1,
+    })
 }
 
 // What follows a `(` before `from` whose list ends at `closed`. No body is met up to the place `near`, where so much is counted.
@@ -168,7 +165,7 @@ fn noted_body(
     n: Counts,
     m: &mut [u32; 4099],
     t: &mut [u16; 36865],
-) -> Sought
+) -> Option<Signature>
     requires { (from ≤ near)
         × (near ≤ length s.now)
         × Counted n near
@@ -178,16 +175,19 @@ fn noted_body(
     ensures { Begins s.now from result × Lent s.now m.new t.new }
 {
     if near == s.len() {
-        return Sought::Broken;
+        return None;
     }
     look_up(s, from, m, t);
     let p = windows::pair_at(m, from);
     if p.first == parts::NEVER {
-        return Sought::Broken;
+        return None;
     }
     if 0 < p.first {
         if 0 < p.second {
-            return Sought::Both(closed, wide(p.second) - 1);
+            return Some(Signature {
+                closed,
+                body: p.second as usize - 1,
+            });
         }
     }
     far_body(s, t, closed, near, n)
@@ -196,7 +196,7 @@ fn noted_body(
 // What follows a `(`, and how far the search for the body went, at most: nothing rests on that but time.
 #[derive(Clone, Copy)]
 struct Went {
-    sought: Sought,
+    sought: Option<Signature>,
     end: usize,
 }
 
@@ -218,17 +218,14 @@ fn further_body(
         × Lent s.now m.old t.old }
     ensures { Begins s.now from result.sought × Lent s.now m.new t.new }
 {
-    let near = flat::ahead(at, NEAR, s.len());
+    let near = (at + NEAR).min(s.len());
     let met = flat::body_before(s, at, near, n);
     match met {
         Reached::Brace(body) => Went {
-            sought: Sought::Both(closed, body),
+            sought: Some(Signature { closed, body }),
             end: body,
         },
-        Reached::Ended(end) => Went {
-            sought: Sought::Broken,
-            end,
-        },
+        Reached::Ended(end) => Went { sought: None, end },
         Reached::Further(k) => Went {
             sought: noted_body(s, from, closed, near, k, m, t),
             end: s.len(),
@@ -237,13 +234,13 @@ fn further_body(
 }
 
 // The number by which a search for a body is kept: two more than the place of the brace, or 1 where there is none.
-fn number_of(r: Sought) -> usize
+fn number_of(r: Option<Signature>) -> usize
     requires { number_for r < 18446744073709551616 }
     ensures { result ≡ number_for r }
 {
     match r {
-        Sought::Both(_, body) => body + 2,
-        Sought::Broken => 1,
+        Some(r) => r.body + 2,
+        None => 1,
     }
 }
 
@@ -258,7 +255,7 @@ fn marked_body(
     m: &mut [u32; 4099],
     t: &mut [u16; 36865],
     f: &mut [usize; 259],
-) -> Sought
+) -> Option<Signature>
     requires { (from ≤ mark)
         × (mark ≤ length s.now)
         × Counted n mark
@@ -269,10 +266,13 @@ fn marked_body(
 {
     let known = memo::recall(s, t, mark, n, f);
     if known == 1 {
-        return Sought::Broken;
+        return None;
     }
     if 1 < known {
-        return Sought::Both(closed, known - 2);
+        return Some(Signature {
+            closed,
+            body: known - 2,
+        });
     }
     let went = further_body(s, from, closed, mark, n, m, t);
     let sought = went.sought;
@@ -288,7 +288,7 @@ fn near_body(
     m: &mut [u32; 4099],
     t: &mut [u16; 36865],
     f: &mut [usize; 259],
-) -> Sought
+) -> Option<Signature>
     requires { (sought_from s.now from 0 ≡ some closed) × Lends s.now m.old t.old f.old }
     ensures { Begins s.now from result × Lends s.now m.new t.new f.new }
 {
@@ -296,8 +296,8 @@ fn near_body(
     let mark = memo::mark_after(f, behind, s.len());
     let met = flat::body_before(s, behind, mark, nothing());
     match met {
-        Reached::Brace(body) => Sought::Both(closed, body),
-        Reached::Ended(_) => Sought::Broken,
+        Reached::Brace(body) => Some(Signature { closed, body }),
+        Reached::Ended(_) => None,
         Reached::Further(n) => marked_body(s, from, closed, mark, n, m, t, f),
     }
 }
@@ -309,11 +309,11 @@ fn sought_after(
     m: &mut [u32; 4099],
     t: &mut [u16; 36865],
     f: &mut [usize; 259],
-) -> Sought
+) -> Option<Signature>
     requires { (from ≤ length s.now) × Lends s.now m.old t.old f.old }
     ensures { Begins s.now from result × Lends s.now m.new t.new f.new }
 {
-    let near = flat::ahead(from, NEAR, s.len());
+    let near = (from + NEAR).min(s.len());
     let met = search::partner_before(s, b'(', b')', from, near, 0);
     match met {
         Met::Partner(closed) => near_body(s, from, closed, m, t, f),
@@ -329,14 +329,14 @@ pub fn brackets_after(
     m: &mut [u32; 4099],
     t: &mut [u16; 36865],
     f: &mut [usize; 259],
-) -> Sought
+) -> Option<Signature>
     requires { (from ≤ length s.now) × Lends s.now m.old t.old f.old }
     ensures { Begins s.now from result × Lends s.now m.new t.new f.new }
 {
     let p = windows::pair_at(m, from);
     if p.first == parts::NEVER {
         windows::mark_used(m);
-        return Sought::Broken;
+        return None;
     }
     if p.first == 0 {
         return sought_after(s, from, m, t, f);
@@ -345,5 +345,8 @@ pub fn brackets_after(
         return sought_after(s, from, m, t, f);
     }
     windows::mark_used(m);
-    Sought::Both(wide(p.first) - 1, wide(p.second) - 1)
+    Some(Signature {
+        closed: p.first as usize - 1,
+        body: p.second as usize - 1,
+    })
 }

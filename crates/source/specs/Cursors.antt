@@ -1,6 +1,6 @@
 -- What a cursor stands for, and what the steps of the search answer.
-use Rattle.std.specs.Prelude.{ℕ, ◌+◌, ◌-◌, ◌≤◌, ◌<◌, ◌≡◌, ◌≢◌, List, [], ◌∷◌, length, take, drop, get_or}
-use Rattle.std.proofs.Math.Option.{none, some}
+use Rattle.std.specs.Prelude.{ℕ, ◌+◌, ◌-◌, ◌≤◌, ◌<◌, ◌≡◌, ◌≢◌, List, [], ◌∷◌, length, take, drop, get_or, Option, None, Some, Result, Ok, Err}
+use Rattle.std.proofs.Math.Option.{Option as MathOption, none, some}
 use Rattle.text_rules.specs.Bytes.{◌or_else◌}
 use Rattle.text_rules.specs.Classes.{brace_close, brace_open, hash}
 use Rattle.text_rules.specs.Search.{part}
@@ -9,25 +9,15 @@ use Rattle.source_rules.specs.Finding.{Places, function_at, function_from, span_
 use Rattle.source_rules.specs.Measures.{cyclomatic_of, lines_of, nesting_of}
 use Rattle.source_rules.specs.Parameters.{params_of}
 use Rattle.source_rules.proofs.PlaceLaws.{block_from, places_at}
-use Rattle.source_rules.specs.TextScan.{TextFun, functions_from, measured}
+use Rattle.source_rules.specs.TextScan.{TextFun, functions_from, measured, sought}
 use Rattle.source_rules.proofs.TextScanLaws.{Fine}
 use Rattle.source_rules.proofs.TextScanSteps.{byte_before}
-use Rattle.search.specs.Place.{Learned}
 use Rattle.measures.specs.Walks.{MeasuredBody}
+use Rattle.measures.specs.declared.Body.{Body}
 use Rattle.passing.specs.declared.Spot.{Spot}
-use Rattle.source.specs.declared.Block.{Block}
 use Rattle.source.specs.declared.Brackets.{Brackets}
 use Rattle.source.specs.declared.Cursor.{Cursor}
 use Rattle.source.specs.declared.Found.{Found}
-use Rattle.source.specs.declared.Measure.{Measure}
-use Rattle.source.specs.declared.Measure.TheVariants.{Counted, Nothing}
-use Rattle.source.specs.declared.Signature.{Signature}
-use Rattle.source.specs.declared.Signature.TheVariants.{Whole, Broken}
-use Rattle.source.specs.declared.Span.{Span}
-use Rattle.source.specs.declared.Step.{Step}
-use Rattle.source.specs.declared.Step.TheVariants.{Function, End}
-use Rattle.source.specs.declared.Turn.{Turn}
-use Rattle.source.specs.declared.Turn.TheVariants.{Yield, Past}
 
 -- the functions from a place on, where a test span ends at one place and the last body at another
 unfoldable pub remaining_at : List ℕ → (at line span_end resume : ℕ) → List TextFun
@@ -58,14 +48,14 @@ Spanless s from to = (x : ℕ) → from ≤ x → x < to → block_from s x ≡ 
 unfoldable pub Barren : List ℕ → ℕ → ℕ → Type 0
 Barren s from to = (start x : ℕ) → from ≤ x → x < to → function_from start x s ≡ none
 
--- what holds of a cursor
+-- what holds of a cursor in a text
 pub record Ready (s : List ℕ) (c : Cursor) : Type 0 where
+  pub text : c.braces ≡ s
   pub inside : c.at ≤ length s
   pub line-least : 1 ≤ c.line
   pub line-most : c.line ≤ c.at + 1
   pub no_span : Spanless s c.at c.spanless
   pub no_function : Barren s c.barren_from c.barren_to
-  pub learned : Learned s c.learnt
 
 -- a function is found, and the cursor behind it has the others. The function's numbers are at most the text's length
 pub record Yields (s : List ℕ) (c : Cursor) (f : Found) (d : Cursor) : Type 0 where
@@ -87,7 +77,11 @@ pub record Passes (s : List ℕ) (c d : Cursor) : Type 0 where
 
 -- a cursor at another place
 abbrev pub moved_to : Cursor → ℕ → ℕ → Cursor
-moved_to c at line = record { at = at; line = line; span_end = c.span_end; resume = c.resume; spanless = c.spanless; barren_from = c.barren_from; barren_to = c.barren_to; learnt = c.learnt }
+moved_to c at line = record c { at = at; line = line }
+
+-- what is sought at the byte of a cursor
+abbrev pub sought_at : List ℕ → Cursor → MathOption Places
+sought_at s c = sought (c.span_end - c.at) (c.resume - c.at) (byte_before s c.at) (drop c.at s)
 
 -- nothing begins at a place: no test span, where none is open, and no function, where neither a span nor a body is
 pub record Calm (s : List ℕ) (span_end resume at : ℕ) : Type 0 where
@@ -101,24 +95,29 @@ pub record Quieter (s : List ℕ) (from start span_end resume : ℕ) (r : Spot) 
   pub line-most : r.line ≤ r.at + 1
   pub passes : (c : Cursor) → c.at ≡ from → c.line ≡ start → c.span_end ≡ span_end → c.resume ≡ resume → Ready s c → Ready s (moved_to c r.at r.line) × (remaining s c ≡ remaining s (moved_to c r.at r.line))
 
-abbrev pub Stepped : List ℕ → Cursor → Step → Type 0
-Stepped s c (Function f d) = Yields s c f d
-Stepped s c End = remaining s c ≡ []
+-- the text has ended: no function is left
+pub record Ended (s : List ℕ) (c d : Cursor) : Type 0 where
+  pub all_found : remaining s c ≡ []
+  pub none_left : remaining s d ≡ []
+  pub ready : Ready s d
 
-abbrev pub Turned : List ℕ → Cursor → Turn → Type 0
-Turned s c (Yield f d) = Yields s c f d
-Turned s c (Past d) = Passes s c d
+abbrev pub Stepped : List ℕ → Cursor → Option Found → Cursor → Type 0
+Stepped s c (Some f) d = Yields s c f d
+Stepped s c None d = Ended s c d
 
--- the test span at a byte
-pub record SpanAt (s : List ℕ) (c : Cursor) (r : Span) : Type 0 where
-  pub left : r.end - c.at ≡ (c.span_end - c.at) or_else span_length (drop c.at s)
-  pub no_span : Spanless s c.at r.spanless
-  pub learned : Learned s r.learnt
+abbrev pub Turned : List ℕ → Cursor → Option Found → Cursor → Type 0
+Turned s c (Some f) d = Yields s c f d
+Turned s c None d = Passes s c d
+
+-- the test span at the byte of a cursor: its end, no further than the byte where there is none, and the place up to which none begins
+pub record SpanAt (s : List ℕ) (c d : Cursor) : Type 0 where
+  pub left : d.span_end - c.at ≡ (c.span_end - c.at) or_else span_length (drop c.at s)
+  pub no_span : Spanless s c.at d.spanless
 
 -- the body whose opening brace stands at a place: where it ends and its measures, or that it is never closed
-abbrev pub Blocked : List ℕ → ℕ → Block → Type 0
-Blocked s at (Block.Closed b v) = (partner brace_open brace_close 0 (at + 1) (drop (at + 1) s) ≡ some b.end) × MeasuredBody b (part at (b.end + 1) s) × Learned s v
-Blocked s at (Block.Open v) = (partner brace_open brace_close 0 (at + 1) (drop (at + 1) s) ≡ none) × Learned s v
+abbrev pub Blocked : List ℕ → ℕ → Option Body → Type 0
+Blocked s at (Some b) = (partner brace_open brace_close 0 (at + 1) (drop (at + 1) s) ≡ some b.end) × MeasuredBody b (part at (b.end + 1) s)
+Blocked s at None = partner brace_open brace_close 0 (at + 1) (drop (at + 1) s) ≡ none
 
 -- the brackets after a name that ends at a place
 pub record Closed (s : List ℕ) (to : ℕ) (b : Brackets) : Type 0 where
@@ -136,9 +135,9 @@ pub record Missing (s : List ℕ) (to n : ℕ) : Type 0 where
   pub none_here : (from : ℕ) → function_from from to s ≡ none
   pub no_function : Barren s to n
 
-abbrev pub Signed : List ℕ → ℕ → Signature → Type 0
-Signed s to (Whole b v) = Closed s to b × Learned s v
-Signed s to (Broken n v) = Missing s to n × Learned s v
+abbrev pub Signed : List ℕ → ℕ → Result Brackets ℕ → Type 0
+Signed s to (Ok b) = Closed s to b
+Signed s to (Err n) = Missing s to n
 
 -- what is measured of a function whose name and brackets are given
 pub record FoundAt (s : List ℕ) (line from to : ℕ) (b : Brackets) (f : Found) : Type 0 where
@@ -162,6 +161,6 @@ pub record NoneAt (s : List ℕ) (at from to : ℕ) : Type 0 where
   pub not_found : function_at (drop at s) ≡ none
   pub no_function : Barren s from to
 
-abbrev pub Measures : List ℕ → Cursor → Measure → Type 0
-Measures s c (Counted f end v) = MeasuredAt s c.at c.line f end × Learned s v
-Measures s c (Nothing from to v) = NoneAt s c.at from to × Learned s v
+abbrev pub Measures : List ℕ → Cursor → Option Found → Cursor → Type 0
+Measures s c (Some f) d = MeasuredAt s c.at c.line f d.resume × Barren s d.barren_from d.barren_to
+Measures s c None d = NoneAt s c.at d.barren_from d.barren_to × (d.resume ≡ c.resume)

@@ -26,13 +26,11 @@ use Rattle.blocks.specs.Blocks.{count-behind, count_from}
 use Rattle.passing.specs.Passing.{Passed}
 use Rattle.passing.specs.declared.Spot.{Spot}
 use Rattle.search.specs.EndLaws.{no_body, no-partner, none-some}
-use Rattle.search.specs.Place.{Learned}
-use Rattle.search.specs.declared.Learnt.{Learnt}
+use Rattle.search.specs.Place.{Absent}
 use Rattle.source.specs.Cursors.{Barren, Calm, Closed, FoundAt, MeasuredAt, Passes, Quieter, Ready, SpanAt, Spanless, Yields, moved_to, remaining, remaining_at, text_fun}
 use Rattle.source.specs.declared.Brackets.{Brackets}
 use Rattle.source.specs.declared.Cursor.{Cursor}
 use Rattle.source.specs.declared.Found.{Found}
-use Rattle.source.specs.declared.Span.{Span}
 
 -- `end` is where the span at the byte ends
 module _ (s : List ℕ) (at line span_end resume end : ℕ) (h : at < length s) (e : end - at ≡ (span_end - at) or_else span_length (drop at s)) where
@@ -73,46 +71,57 @@ pub span_new : (left m n : ℕ) → left ≡ 0 → m ≡ n → m ≡ left or_els
 span_new left m n z e = rw z e
 
 -- past a byte, without a function and with one
-module _ (s : List ℕ) (c : Cursor) (h : c.at < length s) (ready : Ready s c) (span : Span) (here : SpanAt s c span) (line : ℕ) (e : line ≡ count_after lf (get_or s c.at 0) c.line) where
-  abbrev past : (resume from to : ℕ) → Learnt → Cursor
-  past resume from to v = record { at = c.at + 1; line = line; span_end = span.end; resume = resume; spanless = span.spanless; barren_from = from; barren_to = to; learnt = v }
+pub record Next (s : List ℕ) (c d : Cursor) : Type 0 where
+  pub at-is : d.at ≡ c.at + 1
+  pub line-is : d.line ≡ count_after lf (get_or s c.at 0) c.line
+  pub text : d.braces ≡ s
+  pub span : SpanAt s c d
+  pub barren : Barren s d.barren_from d.barren_to
 
-  past-ready : (resume from to : ℕ) (v : Learnt) → Barren s from to → Learned s v → Ready s (past resume from to v)
+module _ (s : List ℕ) (c : Cursor) (h : c.at < length s) (ready : Ready s c) (d : Cursor) (next : Next s c d) where
+  next-ready : Ready s d
   unfolding Spanless
-  past-ready resume from to v gone learned =
-      let l : (c.line ≤ line) × (line ≤ suc c.line) = omega (arith, count-after lf (get_or s c.at 0) c.line) in
+  next-ready =
+      let l : (c.line ≤ d.line) × (d.line ≤ suc c.line) = omega (arith, next.line-is, count-after lf (get_or s c.at 0) c.line) in
       record {
-        inside = omega arith;
+        text = next.text;
+        inside = omega (arith, next.at-is);
         line-least = omega (arith, ready.line-least);
-        line-most = omega (arith, ready.line-most);
-        no_span = λ x i k. here.no_span x (omega arith) k;
-        no_function = gone;
-        learned = learned;
+        line-most = omega (arith, ready.line-most, next.at-is);
+        no_span = λ x i k. next.span.no_span x (omega (arith, next.at-is)) k;
+        no_function = next.barren;
       }
 
-  pub passes : sought (span.end - c.at) (c.resume - c.at) (byte_before s c.at) (drop c.at s) ≡ none → (from to : ℕ) (v : Learnt) → Barren s from to → Learned s v → Passes s c (past c.resume from to v)
+  abbrev Remains : (at line resume : ℕ) → Type 0
+  Remains at line resume = remaining_at s c.at c.line c.span_end c.resume ≡ remaining_at s at line d.span_end resume
+
+  pub passes : d.resume ≡ c.resume → sought (d.span_end - c.at) (c.resume - c.at) (byte_before s c.at) (drop c.at s) ≡ none → Passes s c d
   unfolding remaining
-  passes n from to v gone learned =
+  passes e n =
       record {
-        same = step_past s c.at c.line c.span_end c.resume span.end h here.left n ∙ ap (λ k. remaining_at s (c.at + 1) k span.end c.resume) (sym e);
-        ready = past-ready c.resume from to v gone learned;
-        further = refl;
+        same =
+            subst (λ resume. Remains d.at d.line resume) (sym e)
+            (subst (λ at. Remains at d.line c.resume) (sym next.at-is)
+            (subst (λ line. Remains (c.at + 1) line c.resume) (sym next.line-is) (step_past s c.at c.line c.span_end c.resume d.span_end h next.span.left n)));
+        ready = next-ready;
+        further = next.at-is;
       }
 
-  pub finds : (f : Found) (end : ℕ) (m : MeasuredAt s c.at c.line f end) → sought (span.end - c.at) (c.resume - c.at) (byte_before s c.at) (drop c.at s) ≡ some m.places
-      → (v : Learnt) → Learned s v → Yields s c f (past end c.barren_from c.barren_to v)
+  pub finds : (f : Found) (m : MeasuredAt s c.at c.line f d.resume) → sought (d.span_end - c.at) (c.resume - c.at) (byte_before s c.at) (drop c.at s) ≡ some m.places → Yields s c f d
   unfolding remaining text_fun
-  finds f end m n v learned =
+  finds f m n =
       let here-at : Here s c.at c.line (drop c.at s) = record { rest = refl; inside = omega arith; line-least = ready.line-least; line-most = omega (arith, ready.line-most) } in
       let g : Fine s (text_fun s f) = subst (Fine s) (sym m.function_is) (fine s c.at c.line (drop c.at s) m.places here-at m.found) in
+      let line = count_after lf (get_or s c.at 0) c.line in
       record {
         yields =
-            step-found s c.at c.line c.span_end c.resume span.end h here.left m.places n
-            ∙ ap (λ g. g ∷ remaining_at s (c.at + 1) (count_after lf (get_or s c.at 0) c.line) span.end (c.at + m.places.body_to)) (sym m.function_is)
-            ∙ ap (λ k. text_fun s f ∷ remaining_at s (c.at + 1) k span.end (c.at + m.places.body_to)) (sym e)
-            ∙ ap (λ k. text_fun s f ∷ remaining_at s (c.at + 1) line span.end k) (sym m.end_is);
-        ready = past-ready end c.barren_from c.barren_to v ready.no_function learned;
-        further = omega arith;
+            step-found s c.at c.line c.span_end c.resume d.span_end h next.span.left m.places n
+            ∙ ap (λ g. g ∷ remaining_at s (c.at + 1) line d.span_end (c.at + m.places.body_to)) (sym m.function_is)
+            ∙ ap (λ k. text_fun s f ∷ remaining_at s (c.at + 1) k d.span_end (c.at + m.places.body_to)) (sym next.line-is)
+            ∙ ap (λ k. text_fun s f ∷ remaining_at s k d.line d.span_end (c.at + m.places.body_to)) (sym next.at-is)
+            ∙ ap (λ k. text_fun s f ∷ remaining_at s d.at d.line d.span_end k) (sym m.end_is);
+        ready = next-ready;
+        further = omega (arith, next.at-is);
         name-inside = m.name-inside;
         line-most = g.line-most;
         lines-most = g.lines-most;
@@ -125,10 +134,10 @@ module _ (s : List ℕ) (c : Cursor) (h : c.at < length s) (ready : Ready s c) (
 -- past a byte at which nothing begins: only the place and the line change
 pub quiet : (s : List ℕ) (c : Cursor) → c.at < length s → Ready s c → Calm s c.span_end c.resume c.at → (line : ℕ) → line ≡ count_after lf (get_or s c.at 0) c.line
     → Passes s c (moved_to c (c.at + 1) line)
-quiet s c h ready calm line e = passes s c h ready span here line e none_here c.barren_from c.barren_to c.learnt ready.no_function ready.learned
+quiet s c h ready calm line e = passes s c h ready d next refl none_here
   where
-    span : Span
-    span = record { end = c.span_end; spanless = c.spanless; learnt = c.learnt }
+    d : Cursor
+    d = moved_to c (c.at + 1) line
 
     left : c.span_end - c.at ≡ (c.span_end - c.at) or_else span_length (drop c.at s)
     left =
@@ -137,8 +146,8 @@ quiet s c h ready calm line e = passes s c h ready span here line e none_here c.
           | inr t ↦ span_none (c.span_end - c.at) _ (no-hash s c.at h (calm.no-mark (ltb-false c.at c.span_end t)))
         ]
 
-    here : SpanAt s c span
-    here = record { left = left; no_span = ready.no_span; learned = ready.learned }
+    next : Next s c d
+    next = record { at-is = refl; line-is = e; text = ready.text; span = record { left = left; no_span = ready.no_span }; barren = ready.no_function }
 
     none_here : sought (c.span_end - c.at) (c.resume - c.at) (byte_before s c.at) (drop c.at s) ≡ none
     none_here =
@@ -295,9 +304,9 @@ then-none none k h = refl
 then-none (some m) k h = h m refl
 
 -- behind the last { or the last } no name is a function's
-pub behind_braces : (s : List ℕ) (v : Learnt) → Learned s v → (to : ℕ) → (v.last ≤ to) ⊎ (v.braces.last ≤ to) → (from x : ℕ) → to ≤ x → function_from from x s ≡ none
+pub behind_braces : (s : List ℕ) (to from x : ℕ) → Absent brace_open s to ⊎ Absent brace_close s to → to ≤ x → function_from from x s ≡ none
 unfolding function_from
-behind_braces s v l to h from x k =
+behind_braces s to from x h k =
     then-none (find round_open x (drop x s)) _ λ opened e₁.
     then-none (partner round_open round_close 0 (suc opened) (drop (suc opened) s)) _ λ closed e₂.
     then-none (body_at 0 0 0 (suc closed) (drop (suc closed) s)) _ λ body e₃.
@@ -305,6 +314,6 @@ behind_braces s v l to h from x k =
     let i₂ = partner-place s (suc opened) closed round_open round_close e₂ in
     let i₃ = body-place s (suc closed) body e₃ in
     elim h [
-      | inl g ↦ absurd (none-some body (sym e₃ ∙ no_body s v.last (suc closed) 0 0 0 l.no_opening (omega arith)))
-      | inr g ↦ rw (no-partner brace_open brace_close s v.braces.last (suc body) 0 l.braces_known.no-closing (omega arith))
+      | inl g ↦ absurd (none-some body (sym e₃ ∙ no_body s to (suc closed) 0 0 0 g (omega arith)))
+      | inr g ↦ rw (no-partner brace_open brace_close s to (suc body) 0 g (omega arith))
     ]

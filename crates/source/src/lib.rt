@@ -3,21 +3,25 @@
 // over. Bytes at which nothing can begin are passed in blocks of sixteen.
 #![tactic(auto)]
 
-ghost use Rattle.std.specs.Prelude.{◌≡◌, ◌⊎◌, true, ◌+◌, ◌≤◌, ◌<◌, length, get_or};
-ghost use Rattle.text_rules.specs.Classes.{brace_open};
-ghost use Rattle.search.specs.Place.{Learned};
+ghost use Rattle.std.specs.Prelude.{◌≡◌, IsTrue, ℕ, true, false, ◌+◌, ◌≤◌, ◌<◌, length, get_or, drop};
+ghost use Rattle.std.proofs.Math.Option.{none};
+ghost use Rattle.text_rules.specs.Classes.{brace_open, lf};
+ghost use Rattle.text_rules.specs.Search.{count_after};
+ghost use Rattle.source_rules.specs.Finding.{function_at, function_from};
 ghost use Rattle.signatures.specs.Signatures.{Lends};
 ghost use Rattle.source_rules.specs.TextScan.{functions};
-ghost use Rattle.source.specs.Cursors.{Barren, Blocked, Closed, FoundAt, Measures, Quieter, Ready, Signed, SpanAt, Stepped, Turned, remaining};
+ghost use Rattle.source.specs.Cursors.{Barren, Blocked, Closed, FoundAt, Measures, Quieter, Ready, Signed, SpanAt, Stepped, Turned, moved_to, remaining, sought_at};
 
 use measures::{Body, BodyAt};
 use passing::Spot;
-use search::{Learnt, Place};
-use signatures::Sought;
+use search::Braces;
+use signatures::Signature;
 
 // Where the search for functions stands in a text.
-#[derive(Clone, Copy)]
-pub struct Cursor {
+#[derive(Drop)]
+pub struct Cursor<'a> {
+    // the text, and what was learnt of its braces
+    pub braces: Braces<'a>,
     // the byte to look at next, and its line
     pub at: usize,
     pub line: usize,
@@ -25,11 +29,10 @@ pub struct Cursor {
     pub span_end: usize,
     pub resume: usize,
     // What was sought in vain is not sought again: no test span begins from `at` up to the first place, no name that ends from the second up to
-    // the third is a function's; and what was learnt of the braces.
+    // the third is a function's.
     pub spanless: usize,
     pub barren_from: usize,
     pub barren_to: usize,
-    pub learnt: Learnt,
 }
 
 // A function: where its name stands in the text, and what is measured.
@@ -44,13 +47,6 @@ pub struct Found {
     pub params: usize,
 }
 
-// A function and the cursor behind it, or the end of the text.
-#[derive(Clone, Copy)]
-pub enum Step {
-    Function(Found, Cursor),
-    End,
-}
-
 // The brackets of a function after its name, those of its list and those of its body, and what is measured of the body.
 #[derive(Clone, Copy)]
 struct Brackets {
@@ -63,165 +59,114 @@ struct Brackets {
     lines: usize,
 }
 
-// A body that was sought: where it ends and what is measured of it, or that it is never closed. With it, what was learnt.
-#[derive(Clone, Copy)]
-enum Block {
-    Closed(Body, Learnt),
-    Open(Learnt),
-}
-
-// What follows a name: all four brackets; or not all, and then neither after any other name that ends from there up to the given place. With
-// it, what was learnt.
-#[derive(Clone, Copy)]
-enum Signature {
-    Whole(Brackets, Learnt),
-    Broken(usize, Learnt),
-}
-
-// What a word `fn` begins: a function, and where its body ends; or none, with the places between which no name that ends is a function's.
-#[derive(Clone, Copy)]
-enum Measure {
-    Counted(Found, usize, Learnt),
-    Nothing(usize, usize, Learnt),
-}
-
-// The test span at a byte: its end, no further than the byte where there is none; the place up to which none begins; and what was learnt.
-#[derive(Clone, Copy)]
-struct Span {
-    end: usize,
-    spanless: usize,
-    learnt: Learnt,
-}
-
-// One byte further, with a function or without.
-#[derive(Clone, Copy)]
-enum Turn {
-    Yield(Found, Cursor),
-    Past(Cursor),
-}
-
 // Whether every brace that was sought had a partner, and one may stand behind a place.
-fn is_closed_so_far(v: Learnt, at: usize) -> bool {
-    let braces = v.braces;
-    if braces.at != braces.last {
-        return false;
-    }
-    at < braces.at
+fn is_closed_so_far(braces: &Braces, at: usize) -> bool {
+    braces.at == braces.last_closing && at < braces.at
 }
 
-// The body whose opening brace stands at a place, with its end sought before it is measured.
-fn block_found(s: &[u8], body: usize, v: Learnt) -> Block
-    requires { (body < length s.now) × Learned s.now v }
-    ensures { Blocked s.now body result }
+// The body whose opening brace stands at a place, if it is ever closed. Its end is sought before it is measured.
+fn block_found(braces: &mut Braces, body: usize) -> Option<Body>
+    requires { body < length braces.old }
+    ensures block { Blocked braces.old body result }
+    ensures same { braces.new ≡ braces.old }
 {
-    let found = search::block_end(s, body + 1, v);
-    let w = found.learnt;
-    let place = found.place;
-    let Place::At(end) = place else {
-        return Block::Open(w);
-    };
+    let s = braces.text();
+    let end = braces.block_end(body + 1)?;
     let to = end + 1;
     let m = measures::walk(&s[body..to]);
-    Block::Closed(
-        Body {
-            end,
-            cyclomatic: m.cyclomatic,
-            nesting: m.nesting,
-            lines: m.lines,
-        },
-        w,
-    )
+    Some(Body {
+        end,
+        cyclomatic: m.cyclomatic,
+        nesting: m.nesting,
+        lines: m.lines,
+    })
 }
 
-// The body whose opening brace stands at a place. As long as every brace has a partner, it is measured on the way to its end.
-fn block_at(s: &[u8], body: usize, v: Learnt) -> Block
-    requires { (body < length s.now) × (get_or s.now body 0 ≡ brace_open) × Learned s.now v }
-    ensures { Blocked s.now body result }
+// The body whose opening brace stands at a place, if it is ever closed. As long as every brace has a partner, it is measured on the way to its end.
+fn block_at(braces: &mut Braces, body: usize) -> Option<Body>
+    requires inside { body < length braces.old }
+    requires brace { get_or braces.old body 0 ≡ brace_open }
+    ensures block { Blocked braces.old body result }
+    ensures same { braces.new ≡ braces.old }
 {
-    if is_closed_so_far(v, body) {
+    if is_closed_so_far(braces, body) {
+        let s = braces.text();
         let walked = measures::walk_from(&s[body..], 0);
-        match walked {
-            BodyAt::Closed(b) => {
-                return Block::Closed(
-                    Body {
-                        end: body + b.end,
-                        cyclomatic: b.cyclomatic,
-                        nesting: b.nesting,
-                        lines: b.lines,
-                    },
-                    v,
-                );
-            }
-            BodyAt::Open => {}
-        }
-    }
-    block_found(s, body, v)
-}
-
-// Whether no `{` stands from a place on, or no `}`.
-fn is_behind_braces(v: Learnt, to: usize) -> bool
-    ensures { result ≡ true → (v.last ≤ to) ⊎ (v.braces.last ≤ to) }
-{
-    if v.last <= to {
-        return true;
-    }
-    let braces = v.braces;
-    braces.last <= to
-}
-
-// The brackets after a name that ends at `to`, each of them sought.
-fn signature_sought(
-    s: &[u8],
-    to: usize,
-    v: Learnt,
-    noted: &mut [u32; 4099],
-    sums: &mut [u16; 36865],
-    kept: &mut [usize; 259],
-) -> Signature
-    requires { Learned s.now v × Lends s.now noted.old sums.old kept.old }
-    ensures { Signed s.now to result × Lends s.now noted.new sums.new kept.new }
-{
-    let Place::At(opened) = search::find(s, b'(', to) else {
-        return Signature::Broken(s.len(), v);
-    };
-    let inside = opened + 1;
-    let Sought::Both(closed, body) = signatures::brackets_after(s, inside, noted, sums, kept) else {
-        return Signature::Broken(inside, v);
-    };
-    let block = block_at(s, body, v);
-    match block {
-        Block::Open(w) => Signature::Broken(inside, w),
-        Block::Closed(b, w) => Signature::Whole(
-            Brackets {
-                opened,
-                closed,
-                body,
-                end: b.end,
+        if let BodyAt::Closed(b) = walked {
+            return Some(Body {
+                end: body + b.end,
                 cyclomatic: b.cyclomatic,
                 nesting: b.nesting,
                 lines: b.lines,
-            },
-            w,
-        ),
+            });
+        }
     }
+    block_found(braces, body)
 }
 
-// The brackets after a name that ends at `to`. Behind the last `{` or the last `}` no name is a function's, and nothing is sought.
-fn signature_at(
-    s: &[u8],
+// Whether no `{` stands from a place on, or no `}`: no name that ends there is a function's.
+#[tactic(auto, using(crate::proofs::Behind::behind_opening, crate::proofs::Behind::behind_closing))]
+fn is_behind_braces(braces: &Braces, to: usize) -> bool
+    ensures { IsTrue result → (from x : ℕ) → to ≤ x → function_from from x braces.now ≡ none }
+{
+    braces.last_opening <= to || braces.last_closing <= to
+}
+
+// The brackets after a name that ends at `to`, each of them sought. Where not all four are there, they are not there either after any other name that ends
+// from there up to the place that is told.
+fn signature_sought(
+    braces: &mut Braces,
     to: usize,
-    v: Learnt,
     noted: &mut [u32; 4099],
     sums: &mut [u16; 36865],
     kept: &mut [usize; 259],
-) -> Signature
-    requires { Learned s.now v × Lends s.now noted.old sums.old kept.old }
-    ensures { Signed s.now to result × Lends s.now noted.new sums.new kept.new }
+) -> Result<Brackets, usize>
+    requires { Lends braces.old noted.old sums.old kept.old }
+    ensures signed { Signed braces.old to result }
+    ensures same { braces.new ≡ braces.old }
+    ensures lent { Lends braces.old noted.new sums.new kept.new }
 {
-    if is_behind_braces(v, to) {
-        return Signature::Broken(s.len(), v);
+    let s = braces.text();
+    let Some(opened) = search::find(s, b'(', to) else {
+        return Err(s.len());
+    };
+    let inside = opened + 1;
+    let Some(Signature { closed, body }) = signatures::brackets_after(s, inside, noted, sums, kept)
+    else {
+        return Err(inside);
+    };
+    let block = block_at(braces, body);
+    match block {
+        None => Err(inside),
+        Some(b) => Ok(Brackets {
+            opened,
+            closed,
+            body,
+            end: b.end,
+            cyclomatic: b.cyclomatic,
+            nesting: b.nesting,
+            lines: b.lines,
+        }),
     }
-    signature_sought(s, to, v, noted, sums, kept)
+}
+
+// The same. Behind the last `{` or the last `}` no name is a function's, and nothing is sought.
+fn signature_at(
+    braces: &mut Braces,
+    to: usize,
+    noted: &mut [u32; 4099],
+    sums: &mut [u16; 36865],
+    kept: &mut [usize; 259],
+) -> Result<Brackets, usize>
+    requires { Lends braces.old noted.old sums.old kept.old }
+    ensures signed { Signed braces.old to result }
+    ensures same { braces.new ≡ braces.old }
+    ensures lent { Lends braces.old noted.new sums.new kept.new }
+{
+    if is_behind_braces(braces, to) {
+        return Err(braces.text().len());
+    }
+    signature_sought(braces, to, noted, sums, kept)
 }
 
 // The function on a line whose name stands from one place up to another.
@@ -249,16 +194,19 @@ fn quiet_end(s: &[u8], from: usize, start: usize, span_end: usize, resume: usize
     ensures { Quieter s.now from start span_end resume result }
 {
     let n = s.len();
-    let a = passing::pass_all(s, from, start, chunks::least(span_end, n));
-    let b = passing::pass_others(s, a.at, a.line, chunks::least(resume, n), b'#', b'#');
+    let a = passing::pass_all(s, from, start, span_end.min(n));
+    let b = passing::pass_others(s, a.at, a.line, resume.min(n), b'#', b'#');
     passing::pass_others(s, b.at, b.line, n, b'#', b'f')
 }
 
 // The start of a text.
 pub fn start(s: &[u8]) -> Cursor
-    ensures { Ready s.now result × (remaining s.now result ≡ functions s.now) }
+    ensures text { result.braces ≡ s.now }
+    ensures ready { Ready s.now result }
+    ensures all { remaining s.now result ≡ functions s.now }
 {
     Cursor {
+        braces: Braces::nothing_learnt(s),
         at: 0,
         line: 1,
         span_end: 0,
@@ -266,171 +214,156 @@ pub fn start(s: &[u8]) -> Cursor
         spanless: 0,
         barren_from: 0,
         barren_to: 0,
-        learnt: search::nothing_learnt(s),
     }
 }
 
-impl Cursor {
+impl<'a> Cursor<'a> {
     // The function whose `fn` stands at the next byte.
     fn measure(
-        self,
-        s: &[u8],
+        &mut self,
         noted: &mut [u32; 4099],
         sums: &mut [u16; 36865],
         kept: &mut [usize; 259],
-    ) -> Measure
-        requires { (self.at + 2 ≤ length s.now)
-            × Barren s.now self.barren_from self.barren_to
-            × Learned s.now self.learnt
-            × Lends s.now noted.old sums.old kept.old }
-        ensures { Measures s.now self result × Lends s.now noted.new sums.new kept.new }
+    ) -> Option<Found>
+        requires inside { self.old.at + 2 ≤ length self.old.braces }
+        requires barren { Barren self.old.braces self.old.barren_from self.old.barren_to }
+        requires lent { Lends self.old.braces noted.old sums.old kept.old }
+        ensures measured { Measures self.old.braces self.old result self.new }
+        ensures others { self.new ≡ record self.old { resume = self.new.resume; barren_from = self.new.barren_from; barren_to = self.new.barren_to } }
+        ensures lent { Lends self.old.braces noted.new sums.new kept.new }
     {
+        let s = self.braces.text();
         let from = search::space_end(s, self.at + 2);
         let to = search::word_end(s, from);
-        let v = self.learnt;
         // `fn(u8) -> u8` is a type, not a definition.
         if to == from {
-            return Measure::Nothing(self.barren_from, self.barren_to, v);
+            return None;
         }
         if self.barren_from <= to {
             if to < self.barren_to {
-                return Measure::Nothing(self.barren_from, self.barren_to, v);
+                return None;
             }
         }
-        let g = signature_at(s, to, v, noted, sums, kept);
-        match g {
-            Signature::Broken(n, w) => Measure::Nothing(to, n, w),
-            Signature::Whole(b, w) => {
-                let end = b.end + 1;
-                Measure::Counted(found_at(s, self.line, from, to, b), end, w)
+        let signature = signature_at(&mut self.braces, to, noted, sums, kept);
+        match signature {
+            Err(n) => {
+                self.barren_from = to;
+                self.barren_to = n;
+                None
+            }
+            Ok(b) => {
+                self.resume = b.end + 1;
+                Some(found_at(s, self.line, from, to, b))
             }
         }
     }
 
     // The test span at the next byte: the one that is open, or one that begins there.
-    fn span_at(self, s: &[u8]) -> Span
-        requires { (self.at < length s.now) × Ready s.now self }
-        ensures { SpanAt s.now self result }
+    fn open_span(&mut self)
+        requires inside { self.old.at < length self.old.braces }
+        requires ready { Ready self.old.braces self.old }
+        ensures span { SpanAt self.old.braces self.old self.new }
+        ensures others { self.new ≡ record self.old { span_end = self.new.span_end; spanless = self.new.spanless } }
     {
+        let s = self.braces.text();
         let at = self.at;
-        let learnt = self.learnt;
-        let mut span = Span {
-            end: self.span_end,
-            spanless: self.spanless,
-            learnt,
-        };
         if at < self.span_end {
-            return span;
+            return;
         }
         if s[at] != b'#' {
-            return span;
+            return;
         }
         if at < self.spanless {
-            return span;
+            return;
         }
         if !search::test_mark(s, at) {
-            return span;
+            return;
         }
-        let Place::At(opened) = search::find(s, b'{', at) else {
-            span.spanless = s.len();
-            return span;
+        let Some(opened) = search::find(s, b'{', at) else {
+            self.spanless = s.len();
+            return;
         };
-        let block = search::block_end(s, opened + 1, learnt);
-        let w = block.learnt;
-        let place = block.place;
-        let Place::At(closed) = place else {
-            return Span {
-                end: self.span_end,
-                spanless: opened + 1,
-                learnt: w,
-            };
-        };
-        Span {
-            end: closed,
-            spanless: self.spanless,
-            learnt: w,
+        let closed = self.braces.block_end(opened + 1);
+        match closed {
+            None => self.spanless = opened + 1,
+            Some(end) => self.span_end = end,
         }
     }
 
-    // Past the next byte.
+    // Whether a function is sought at the next byte: at a word `fn` outside test spans and behind the last body.
+    #[tactic(auto, using(crate::proofs::Words::no_f, crate::proofs::Words::in_span, crate::proofs::Words::in_body, crate::proofs::Words::no_word, crate::proofs::Words::word, crate::proofs::Words::word_inside))]
+    fn is_sought(&self) -> bool
+        requires { self.now.at < length self.now.braces }
+        ensures not_found { result ≡ false → sought_at self.now.braces self.now ≡ none }
+        ensures found { result ≡ true → sought_at self.now.braces self.now ≡ function_at (drop self.now.at self.now.braces) }
+        ensures inside { result ≡ true → self.now.at + 2 ≤ length self.now.braces }
+    {
+        let s = self.braces.text();
+        let at = self.at;
+        s[at] == b'f' && self.span_end <= at && self.resume <= at && search::word_at(s, at)
+    }
+
+    // One byte further.
+    fn step(&mut self)
+        requires inside { self.old.at < length self.old.braces }
+        requires line_most { self.old.line ≤ self.old.at + 1 }
+        ensures { self.new ≡ moved_to self.old (self.old.at + 1) (count_after lf (get_or self.old.braces self.old.at 0) self.old.line) }
+    {
+        let s = self.braces.text();
+        self.line = flat::count_after(b'\n', s[self.at], self.line);
+        self.at += 1;
+    }
+
+    // Past the next byte, with the function that begins there.
     fn turn_at(
-        self,
-        s: &[u8],
+        &mut self,
         noted: &mut [u32; 4099],
         sums: &mut [u16; 36865],
         kept: &mut [usize; 259],
-    ) -> Turn
-        requires { (self.at < length s.now) × Ready s.now self × Lends s.now noted.old sums.old kept.old }
-        ensures { Turned s.now self result × Lends s.now noted.new sums.new kept.new }
+    ) -> Option<Found>
+        requires inside { self.old.at < length self.old.braces }
+        requires ready { Ready self.old.braces self.old }
+        requires lent { Lends self.old.braces noted.old sums.old kept.old }
+        ensures turned { Turned self.old.braces self.old result self.new }
+        ensures lent { Lends self.old.braces noted.new sums.new kept.new }
     {
-        let at = self.at;
-        let b = s[at];
-        let span = self.span_at(s);
-        let mut c = self;
-        c.at = at + 1;
-        c.line = flat::count_after(b'\n', b, self.line);
-        c.span_end = span.end;
-        c.spanless = span.spanless;
-        let learnt = span.learnt;
-        c.learnt = learnt;
-        if b != b'f' {
-            return Turn::Past(c);
+        self.open_span();
+        if !self.is_sought() {
+            self.step();
+            return None;
         }
-        if at < span.end {
-            return Turn::Past(c);
-        }
-        if at < self.resume {
-            return Turn::Past(c);
-        }
-        if !search::word_at(s, at) {
-            return Turn::Past(c);
-        }
-        let m = self.measure(s, noted, sums, kept);
-        match m {
-            Measure::Nothing(from, to, v) => {
-                c.barren_from = from;
-                c.barren_to = to;
-                c.learnt = v;
-                Turn::Past(c)
-            }
-            Measure::Counted(f, end, v) => {
-                c.resume = end;
-                c.learnt = v;
-                Turn::Yield(f, c)
-            }
-        }
+        let found = self.measure(noted, sums, kept);
+        self.step();
+        found
     }
 
     // The next function of the text. The arrays hold what is noted of the brackets that follow its names, the sums of its chunks, and what the last long
     // searches for a body found.
     pub fn next(
-        self,
-        s: &[u8],
+        &mut self,
         noted: &mut [u32; 4099],
         sums: &mut [u16; 36865],
         kept: &mut [usize; 259],
-    ) -> Step
-        requires { Ready s.now self × Lends s.now noted.old sums.old kept.old }
-        ensures { Stepped s.now self result × Lends s.now noted.new sums.new kept.new }
+    ) -> Option<Found>
+        requires ready { Ready self.old.braces self.old }
+        requires lent { Lends self.old.braces noted.old sums.old kept.old }
+        ensures stepped { Stepped self.old.braces self.old result self.new }
+        ensures lent { Lends self.old.braces noted.new sums.new kept.new }
     {
-        let mut c = self;
-        while c.at < s.len() {
-            let q = quiet_end(s, c.at, c.line, c.span_end, c.resume);
-            c.at = q.at;
-            c.line = q.line;
-            if c.at == s.len() {
-                return Step::End;
+        let s = self.braces.text();
+        // Kept: a turn passes a run of bytes of any length, so no `for` counts the turns.
+        while self.at < s.len() {
+            let q = quiet_end(s, self.at, self.line, self.span_end, self.resume);
+            self.at = q.at;
+            self.line = q.line;
+            if self.at == s.len() {
+                return None;
             }
-            let t = c.turn_at(s, noted, sums, kept);
-            match t {
-                Turn::Yield(f, d) => {
-                    return Step::Function(f, d);
-                }
-                Turn::Past(d) => {
-                    c = d;
-                }
+            let found = self.turn_at(noted, sums, kept);
+            if found.is_some() {
+                return found;
             }
         }
-        Step::End
+        None
     }
 }

@@ -11,12 +11,14 @@ use Rattle.gate_scan.proofs.scan_text.Given as goal
 
 abbrev pub invariant-loop-f : goal.invariant-loop-f
 invariant-loop-f l =
-    Ready l.s l.c
-    × (length l.lent ≡ length l.initial.lent)
-    × (l.n + length (remaining l.s l.c) ≡ l.done + length (functions l.s))
-    × (l.n ≤ l.done + l.c.at)
-    × (put_records l.n (records_for l.number l.place (remaining l.s l.c)) l.lent ≡ put_records l.done (records_for l.number l.place (functions l.s)) l.initial.lent)
-    × Lends l.s l.noted l.sums l.kept
+    record {
+      ready : Ready l.s l.cursor;
+      long : length l.lent ≡ length l.initial.lent;
+      counted : l.n + length (remaining l.s l.cursor) ≡ l.done + length (functions l.s);
+      most : l.n ≤ l.done + l.cursor.at;
+      put : put_records l.n (records_for l.number l.place (remaining l.s l.cursor)) l.lent ≡ put_records l.done (records_for l.number l.place (functions l.s)) l.initial.lent;
+      lends : Lends l.s l.noted l.sums l.kept;
+    }
 
 abbrev pub decreases-loop-f : goal.decreases-loop-f
-decreases-loop-f l = length l.s - l.c.at
+decreases-loop-f l = length l.s - l.cursor.at

@@ -1,20 +1,10 @@
 -- `signatures::far_body` meets its contract: the search goes on to the end of the text, and there is no brace any more.
-use mathlib.Core.Path.{◌∙◌, refl, subst}
+use mathlib.Core.Path.{◌∙◌, subst}
 use native.Mathlib.Omega.{arith}
 use lib.ListN.{length}
 use Rattle.source_rules.proofs.WalkSteps.{body_end}
 use Rattle.flat.specs.Body.{Reaches}
 use Rattle.signatures.proofs.far_body.Goals as goal
-
-pub returns-in-Brace : goal.returns-in-Brace
-returns-in-Brace c =
-    let a = c.args in
-    (refl, c.requires.2 ∙ subst (Reaches a.s.now a.from (length a.s.now) a.n) c.in-Brace.is c.body_until-met.ensures)
-
-pub returns-in-Ended : goal.returns-in-Ended
-returns-in-Ended c =
-    let a = c.args in
-    c.requires.2 ∙ subst (Reaches a.s.now a.from (length a.s.now) a.n) c.in-Ended.is c.body_until-met.ensures
 
 pub returns-in-Further : goal.returns-in-Further
 returns-in-Further c =

@@ -5,22 +5,18 @@ use native.Mathlib.Omega.{arith}
 use Rattle.text_rules.specs.Classes.{round_close, round_open}
 use Rattle.source_rules.proofs.PlaceLaws.{partner-place}
 use Rattle.search.specs.Place.{place_of}
-use Rattle.parts.specs.Told.{no_end, sought_from}
+use Rattle.parts.specs.Told.{sought_from}
 use Rattle.signatures.specs.Signatures.{follows_begins}
 use Rattle.signatures.proofs.far_list.Goals as goal
 
 pub body_behind-requires : goal.body_behind-requires
 body_behind-requires c =
     let a = c.args in
-    let there : sought_from a.s.now a.from 0 ≡ some c.in-At.closed = c.requires.2 ∙ sym c.far_end-end.ensures ∙ ap place_of c.in-At.is in
+    let there : sought_from a.s.now a.from 0 ≡ some c.in-Some.closed = c.requires.2 ∙ sym c.far_end-end.ensures ∙ ap place_of c.in-Some.is in
     (omega (arith, partner-place a.s.now a.from _ round_open round_close there), c.requires.3)
 
-pub returns-in-At : goal.returns-in-At
-returns-in-At c =
+pub returns-in-Some : goal.returns-in-Some
+returns-in-Some c =
     let a = c.args in
-    let there : sought_from a.s.now a.from 0 ≡ some c.in-At.closed = c.requires.2 ∙ sym c.far_end-end.ensures ∙ ap place_of c.in-At.is in
+    let there : sought_from a.s.now a.from 0 ≡ some c.in-Some.closed = c.requires.2 ∙ sym c.far_end-end.ensures ∙ ap place_of c.in-Some.is in
     follows_begins a.s.now a.from _ c.body_behind.result there c.body_behind.ensures
-
-pub returns-in-Nowhere : goal.returns-in-Nowhere
-returns-in-Nowhere c =
-    no_end (c.requires.2 ∙ sym c.far_end-end.ensures ∙ ap place_of c.in-Nowhere.is)

@@ -19,12 +19,6 @@ mark_after-mark-requires c =
     let a = c.args in
     omega (arith, partner-place a.s.now a.from a.closed round_open round_close c.requires.0)
 
-pub body_before-met-requires : goal.body_before-met-requires
-body_before-met-requires c =
-    let a = c.args in
-    let i = partner-place a.s.now a.from a.closed round_open round_close c.requires.0 in
-    (omega (arith, c.mark_after-mark.ensures, i), omega (arith, c.mark_after-mark.ensures), (nothing-begins a.s.now a.closed _ c.nothing.ensures).0)
-
 pub marked_body-requires : goal.marked_body-requires
 marked_body-requires c =
     let a = c.args in
@@ -32,12 +26,6 @@ marked_body-requires c =
     let e = subst (Reaches a.s.now (a.closed + 1) c.mark_after-mark.result c.nothing.result) c.in-Further.is c.body_before-met.ensures in
     let begins = (nothing-begins a.s.now a.closed _ c.nothing.ensures).1 in
     (omega (arith, c.mark_after-mark.ensures, i), omega (arith, c.mark_after-mark.ensures), e.1, c.requires.0, begins ∙ e.0, c.requires.1)
-
-pub returns-in-Brace : goal.returns-in-Brace
-returns-in-Brace c =
-    let a = c.args in
-    let e = subst (Reaches a.s.now (a.closed + 1) c.mark_after-mark.result c.nothing.result) c.in-Brace.is c.body_before-met.ensures in
-    ((c.requires.0, (nothing-begins a.s.now a.closed _ c.nothing.ensures).1 ∙ e), c.requires.1)
 
 pub returns-in-Ended : goal.returns-in-Ended
 returns-in-Ended c =

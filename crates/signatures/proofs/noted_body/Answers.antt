@@ -1,12 +1,10 @@
 -- `signatures::noted_body` meets its contract: the numbers tell of the place what they must, and a bracket has one partner, so the first tells of the same list.
 -- Where they tell of no body the search goes on from `near`.
-use Prim.Native.Nat.{◌-◌}
-use mathlib.Core.Path.{◌∙◌, ap, sym}
-use mathlib.Core.Option.{some}
+use mathlib.Core.Path.{◌∙◌}
 use native.Mathlib.Omega.{arith}
 use Rattle.source_rules.proofs.WalkSteps.{body_end}
 use Rattle.parts.specs.Told.{found-told, no-brace}
-use Rattle.signatures.specs.Signatures.{follows_begins, told-body}
+use Rattle.signatures.specs.Signatures.{follows_begins}
 use Rattle.signatures.proofs.noted_body.Goals as goal
 
 pub returns-then-near-s : goal.returns-then-near-s
@@ -18,13 +16,6 @@ pub returns-then-p : goal.returns-then-p
 returns-then-p c =
     let a = c.args in
     ((found-told a.s.now _ a.from _ _ c.look_up.ensures.0 c.pair_at-p.ensures).nowhere c.if-p.true, c.look_up.ensures)
-
-pub returns-then-p-gt0-2 : goal.returns-then-p-gt0-2
-returns-then-p-gt0-2 c =
-    let a = c.args in
-    let told = found-told a.s.now _ a.from _ _ c.look_up.ensures.0 c.pair_at-p.ensures in
-    let brace = told-body a.s.now a.from _ _ a.closed told c.requires.3 (λ z. omega (arith, c.if-p-gt0.true)) c.if-p.false (λ z. omega (arith, c.if-p-gt0-2.true)) in
-    ((c.requires.3, brace ∙ ap (λ k. some (k - 1)) (sym c.wide.ensures)), c.look_up.ensures)
 
 pub returns : goal.returns
 returns c =

@@ -1,13 +1,11 @@
 -- `signatures::noted_list` meets its contract: the numbers tell of the place what they must. Where the first tells nothing the search goes on from `near`, and
 -- where the second does from behind the list.
-use Prim.Native.Nat.{◌-◌}
-use mathlib.Core.Path.{◌∙◌, ◌≡◌, ap, subst, sym}
-use mathlib.Core.Option.{some}
+use mathlib.Core.Path.{◌∙◌}
 use native.Mathlib.Omega.{arith}
 use Rattle.text_rules.specs.Classes.{round_close, round_open}
 use Rattle.source_rules.proofs.PlaceLaws.{partner-place}
 use Rattle.source_rules.proofs.WalkSteps.{partner-end}
-use Rattle.parts.specs.Told.{body_behind, found-told, no_end}
+use Rattle.parts.specs.Told.{found-told, no_end}
 use Rattle.signatures.specs.Signatures.{follows_begins}
 use Rattle.signatures.proofs.noted_list.Goals as goal
 
@@ -21,27 +19,14 @@ returns-then-p c =
     let a = c.args in
     ((found-told a.s.now _ a.from _ _ c.look_up.ensures.0 c.pair_at-p.ensures).nowhere c.if-p.true, c.look_up.ensures)
 
-pub returns-then-p-eq0 : goal.returns-then-p-eq0
-returns-then-p-eq0 c =
-    (c.far_list.ensures, c.look_up.ensures)
-
 pub body_behind-requires : goal.body_behind-requires
 body_behind-requires c =
     let a = c.args in
     let there = (found-told a.s.now _ a.from _ _ c.look_up.ensures.0 c.pair_at-p.ensures).there c.if-p-eq0.false c.if-p.false in
-    (omega (arith, c.wide-closed.ensures, partner-place a.s.now a.from _ round_open round_close there), c.look_up.ensures.1)
+    (omega (arith, partner-place a.s.now a.from _ round_open round_close there), c.look_up.ensures.1)
 
 pub returns-then-p-eq0-2 : goal.returns-then-p-eq0-2
 returns-then-p-eq0-2 c =
     let a = c.args in
     let there = (found-told a.s.now _ a.from _ _ c.look_up.ensures.0 c.pair_at-p.ensures).there c.if-p-eq0.false c.if-p.false in
-    (follows_begins a.s.now a.from _ c.body_behind.result (there ∙ ap (λ k. some (k - 1)) (sym c.wide-closed.ensures)) c.body_behind.ensures, c.look_up.ensures)
-
-pub returns : goal.returns
-returns c =
-    let a = c.args in
-    let s = a.s.now in
-    let told = found-told s _ a.from _ _ c.look_up.ensures.0 c.pair_at-p.ensures in
-    let there = told.there c.if-p-eq0.false c.if-p.false ∙ ap (λ k. some (k - 1)) (sym c.wide-closed.ensures) in
-    let brace = told.brace c.if-p-eq0.false c.if-p.false c.if-p-eq0-2.false ∙ ap (λ k. some (k - 1)) (sym c.wide.ensures) in
-    ((there, subst (λ k. body_behind s (k - 1) ≡ some (c.wide.result - 1)) (sym c.wide-closed.ensures) brace), c.look_up.ensures)
+    (follows_begins a.s.now a.from _ c.body_behind.result (there) c.body_behind.ensures, c.look_up.ensures)

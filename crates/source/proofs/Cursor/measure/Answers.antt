@@ -1,42 +1,50 @@
--- `source::Cursor::measure` meets its contract: the two runs tell where the name begins and ends, and the rules have one law for a missing name,
--- one for a missing bracket and one for a function.
-use mathlib.Core.Path.{subst}
-use native.Mathlib.Omega.{arith}
-use Rattle.source.specs.Cursors.{Barren, Closed, Signed}
+-- The two runs tell where the name begins and ends, and the rules have one law for a missing name, one for a missing bracket and one for a function.
+use Rattle.std.proofs.Common.{ℕ, ◌+◌, ◌≡◌, List, drop, ap, subst, ◌∙◌, refl}
+use Rattle.text_rules.specs.Classes.{is_space, is_word}
+use Rattle.text_rules.specs.Search.{run}
+use Rattle.source.specs.Cursors.{Barren, FoundAt, Signed}
 use Rattle.source.specs.Steps.{broken, function_there, nameless}
 use Rattle.source.proofs.Cursor.measure.Goals as goal
 
-pub returns-then-to-from : goal.returns-then-to-from
-returns-then-to-from c =
-    ((record { not_found = nameless c.args.s.now c.args.self.at _ _ c.space_end-from.ensures.0 c.word_end-to.ensures.0 c.if-to-from.true; no_function = c.requires.1 }, c.requires.2), c.requires.3)
+from_is : (s t : List ℕ) → t ≡ s → (at from : ℕ) → from ≡ at + 2 + run is_space (drop (at + 2) t) → from ≡ at + 2 + run is_space (drop (at + 2) s)
+from_is s t e at from h = h ∙ ap (λ u. at + 2 + run is_space (drop (at + 2) u)) e
 
-pub returns-then-to-self : goal.returns-then-to-self
+to_is : (s t : List ℕ) → t ≡ s → (from to : ℕ) → to ≡ from + run is_word (drop from t) → to ≡ from + run is_word (drop from s)
+to_is s t e from to h = h ∙ ap (λ u. from + run is_word (drop from u)) e
+
+pub returns-then-to-from-clause-measured : goal.returns-then-to-from-clause-measured
+returns-then-to-from-clause-measured c =
+    let s = c.args.self.now.braces in
+    let at = c.args.self.now.at in
+    let e₁ = from_is s _ c.text-s.ensures at _ c.space_end-from.ensures.end in
+    let e₂ = to_is s _ c.text-s.ensures _ _ c.word_end-to.ensures.end in
+    (record { not_found = nameless s at _ _ e₁ e₂ c.if-to-from.true; no_function = c.requires.barren }, refl)
+
+pub returns-then-to-self-clause-measured : goal.returns-then-to-self-clause-measured
 unfolding Barren
-returns-then-to-self c =
-    let none-there = broken c.args.s.now c.args.self.at _ _ c.space_end-from.ensures.0 c.word_end-to.ensures.0 c.word_end-to.ensures.1 c.if-to-from.false
-    (λ start. c.requires.1 start c.word_end-to.result c.if-self-to.true c.if-to-self.true) in
-    ((record { not_found = none-there; no_function = c.requires.1 }, c.requires.2), c.requires.3)
+returns-then-to-self-clause-measured c =
+    let s = c.args.self.now.braces in
+    let at = c.args.self.now.at in
+    let e₁ = from_is s _ c.text-s.ensures at _ c.space_end-from.ensures.end in
+    let e₂ = to_is s _ c.text-s.ensures _ _ c.word_end-to.ensures.end in
+    let none-there = broken s at _ _ e₁ e₂ c.word_end-to.ensures.behind c.if-to-from.false (λ start. c.requires.barren start c.word_end-to.result c.if-self-to.true c.if-to-self.true) in
+    (record { not_found = none-there; no_function = c.requires.barren }, refl)
 
-pub overflow_add-end : goal.overflow_add-end
-overflow_add-end c =
-    let l : Closed c.args.s.now c.word_end-to.result c.in-Whole.b =
-    (subst (Signed c.args.s.now c.word_end-to.result) c.in-Whole.is c.signature_at-g.ensures.0).0 in
-    omega (arith, l.inside)
+pub returns-in-Err-clause-measured : goal.returns-in-Err-clause-measured
+returns-in-Err-clause-measured c =
+    let s = c.args.self.now.braces in
+    let at = c.args.self.now.at in
+    let e₁ = from_is s _ c.text-s.ensures at _ c.space_end-from.ensures.end in
+    let e₂ = to_is s _ c.text-s.ensures _ _ c.word_end-to.ensures.end in
+    let l = subst (Signed s c.word_end-to.result) c.in-Err.is c.signature_at-signature.ensures.signed in
+    (record { not_found = broken s at _ _ e₁ e₂ c.word_end-to.ensures.behind c.if-to-from.false l.none_here; no_function = l.no_function }, refl)
 
-pub found_at-requires : goal.found_at-requires
-found_at-requires c =
-    (c.word_end-to.ensures.1, (subst (Signed c.args.s.now c.word_end-to.result) c.in-Whole.is c.signature_at-g.ensures.0).0)
-
-pub returns-in-Broken : goal.returns-in-Broken
-returns-in-Broken c =
-    let (l, v) = subst (Signed c.args.s.now c.word_end-to.result) c.in-Broken.is c.signature_at-g.ensures.0 in
-    let none-there = broken c.args.s.now c.args.self.at _ _ c.space_end-from.ensures.0 c.word_end-to.ensures.0 c.word_end-to.ensures.1 c.if-to-from.false l.none_here in
-    ((record { not_found = none-there; no_function = l.no_function }, v), c.signature_at-g.ensures.1)
-
-pub returns-in-Whole : goal.returns-in-Whole
-returns-in-Whole c =
-    let (l, v) = subst (Signed c.args.s.now c.word_end-to.result) c.in-Whole.is c.signature_at-g.ensures.0 in
-    let there =
-    function_there c.args.s.now c.args.self.at _ _ c.space_end-from.ensures.0 c.word_end-to.ensures.0 c.word_end-to.ensures.1 c.if-to-from.false c.args.self.line
-    c.in-Whole.b c.found_at.result l c.found_at.ensures in
-    ((there, v), c.signature_at-g.ensures.1)
+pub returns-in-Ok-clause-measured : goal.returns-in-Ok-clause-measured
+returns-in-Ok-clause-measured c =
+    let s = c.args.self.now.braces in
+    let at = c.args.self.now.at in
+    let e₁ = from_is s _ c.text-s.ensures at _ c.space_end-from.ensures.end in
+    let e₂ = to_is s _ c.text-s.ensures _ _ c.word_end-to.ensures.end in
+    let l = subst (Signed s c.word_end-to.result) c.in-Ok.is c.signature_at-signature.ensures.signed in
+    let f = subst (λ u. FoundAt u c.args.self.now.line c.space_end-from.result c.word_end-to.result c.in-Ok.b c.found_at.result) c.text-s.ensures c.found_at.ensures in
+    (function_there s at _ _ e₁ e₂ c.word_end-to.ensures.behind c.if-to-from.false c.args.self.now.line c.in-Ok.b c.found_at.result l f, c.requires.barren)

@@ -1,13 +1,17 @@
--- `source::Cursor::next` meets its contract: each turn leaves the functions that are still to come, until one is found or the text ends.
-use Prim.Native.Nat.{◌-◌, ◌≤◌}
-use mathlib.Core.Path.{◌≡◌}
-use lib.ListN.{length}
+-- Each turn leaves the functions that are still to come, until one is found or the text ends.
+use Rattle.std.proofs.Common.{◌-◌, ◌≤◌, ◌≡◌, length}
 use Rattle.signatures.specs.Signatures.{Lends}
 use Rattle.source.specs.Cursors.{Ready, remaining}
 use Rattle.source.proofs.Cursor.next.Given as goal
 
-abbrev pub invariant-loop-c : goal.invariant-loop-c
-invariant-loop-c l = Ready l.s l.c × (remaining l.s l.c ≡ remaining l.s l.initial.c) × (l.initial.c.at ≤ l.c.at) × Lends l.s l.noted l.sums l.kept
+abbrev pub invariant-loop-self : goal.invariant-loop-self
+invariant-loop-self l =
+    record {
+      ready : Ready l.s l.self;
+      same : remaining l.s l.self ≡ remaining l.s l.initial.self;
+      further : l.initial.self.at ≤ l.self.at;
+      lent : Lends l.s l.noted l.sums l.kept;
+    }
 
-abbrev pub decreases-loop-c : goal.decreases-loop-c
-decreases-loop-c l = length l.s - l.c.at
+abbrev pub decreases-loop-self : goal.decreases-loop-self
+decreases-loop-self l = length l.s - l.self.at

@@ -1,0 +1,4 @@
+mod Finds
+mod Kept
+mod Unmatched
+mod Words
