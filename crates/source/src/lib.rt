@@ -189,14 +189,14 @@ fn found_at(s: &[u8], line: usize, from: usize, to: usize, b: Brackets) -> Found
 }
 
 // The next byte at which a test span or a function may begin, or the end of the text. In a test span neither is sought, in a body no function.
-fn quiet_end(s: &[u8], from: usize, start: usize, span_end: usize, resume: usize) -> Spot
-    requires { (from ≤ length s.now) × (start ≤ from + 1) }
-    ensures { Quieter s.now from start span_end resume result }
+fn quiet_end(s: &[u8], from: Spot, span_end: usize, resume: usize) -> Spot
+    requires { (from.at ≤ length s.now) × (from.line ≤ from.at + 1) }
+    ensures { Quieter s.now from.at from.line span_end resume result }
 {
     let n = s.len();
-    let a = passing::pass_all(s, from, start, span_end.min(n));
-    let b = passing::pass_others(s, a.at, a.line, resume.min(n), b'#', b'#');
-    passing::pass_others(s, b.at, b.line, n, b'#', b'f')
+    let a = from.pass_all(s, span_end.min(n));
+    let b = a.pass_others(s, resume.min(n), b'#', b'#');
+    b.pass_others(s, n, b'#', b'f')
 }
 
 // The start of a text.
@@ -353,7 +353,11 @@ impl<'a> Cursor<'a> {
         let s = self.braces.text();
         // Kept: a turn passes a run of bytes of any length, so no `for` counts the turns.
         while self.at < s.len() {
-            let q = quiet_end(s, self.at, self.line, self.span_end, self.resume);
+            let from = Spot {
+                at: self.at,
+                line: self.line,
+            };
+            let q = quiet_end(s, from, self.span_end, self.resume);
             self.at = q.at;
             self.line = q.line;
             if self.at == s.len() {
