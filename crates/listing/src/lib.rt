@@ -15,12 +15,9 @@ pub fn put_text(out: &mut [u8], at: usize, text: &[u8]) -> usize
     requires { at + length text.now ≤ length out.old }
     ensures { (result ≡ at + length text.now) × (out.new ≡ put_at at text.now out.old) }
 {
-    let mut i = 0;
-    while i < text.len() {
-        out[at + i] = text[i];
-        i += 1;
-    }
-    at + i
+    let end = at + text.len();
+    out[at..end].copy_from_slice(text);
+    end
 }
 
 // A text with a space for each tab.
@@ -28,22 +25,17 @@ pub fn put_spaced(out: &mut [u8], at: usize, key: &[u8]) -> usize
     requires { at + length key.now ≤ length out.old }
     ensures { (result ≡ at + length key.now) × (out.new ≡ put_at at (spaced key.now) out.old) }
 {
-    let mut i = 0;
-    while i < key.len() {
-        out[at + i] = untabbed(key[i]);
-        i += 1;
+    for (i, b) in key.iter().enumerate() {
+        out[at + i] = untabbed(*b);
     }
-    at + i
+    at + key.len()
 }
 
 // A space for a tab.
 fn untabbed(b: u8) -> u8
     ensures { result ≡ (if eqb b tab then space otherwise b) }
 {
-    if b == b'\t' {
-        return b' ';
-    }
-    b
+    if b == b'\t' { b' ' } else { b }
 }
 
 // Spaces, `count` of them.
@@ -51,25 +43,16 @@ pub fn put_spaces(out: &mut [u8], at: usize, count: usize) -> usize
     requires { at + count ≤ length out.old }
     ensures { (result ≡ at + count) × (out.new ≡ put_at at (replicate count space) out.old) }
 {
-    let mut done = 0;
-    while done < count {
-        out[at + done] = b' ';
-        done += 1;
-    }
-    at + done
+    let end = at + count;
+    out[at..end].fill(b' ');
+    end
 }
 
 // How many digits a number has in decimal.
 pub fn digits(n: u64) -> usize
     ensures { (result ≡ length (decimal n)) × (1 ≤ result) × (result ≤ 20) }
 {
-    let mut left = n;
-    let mut count = 1;
-    while left >= 10 {
-        left = left / 10;
-        count += 1;
-    }
-    count
+    n.max(1).ilog10() as usize + 1
 }
 
 // A number in decimal. Its digits are written from the last to the first, as division gives them.
@@ -79,13 +62,10 @@ pub fn put_number(out: &mut [u8], at: usize, n: u64) -> usize
 {
     let end = at + digits(n);
     let mut rest = n;
-    let mut last = end - 1;
-    while rest >= 10 {
+    for last in (at..end).rev() {
         out[last] = b'0' + (rest % 10) as u8;
-        rest = rest / 10;
-        last -= 1;
+        rest /= 10;
     }
-    out[last] = b'0' + rest as u8;
     end
 }
 
@@ -93,22 +73,14 @@ pub fn put_number(out: &mut [u8], at: usize, n: u64) -> usize
 fn padding(width: usize, n: u64) -> usize
     ensures { result ≡ width - length (decimal n) }
 {
-    let count = digits(n);
-    if count < width {
-        return width - count;
-    }
-    0
+    width.saturating_sub(digits(n))
 }
 
 // The bytes of a right-justified number: the width, or all its digits where they are more.
 pub fn justified_length(width: usize, n: u64) -> usize
     ensures { result ≡ max width (length (decimal n)) }
 {
-    let count = digits(n);
-    if count < width {
-        return width;
-    }
-    count
+    width.max(digits(n))
 }
 
 // A number, right-justified to at least `width` columns.
@@ -125,7 +97,7 @@ pub fn location_length(path: &[u8], line: u32, name: &[u8]) -> usize
     requires { length path.now + length name.now ≤ 4294967296 }
     ensures { result ≡ located_length path.now line name.now }
 {
-    path.len() + 1 + digits(line as u64) + 1 + name.len()
+    path.len() + 1 + digits(u64::from(line)) + 1 + name.len()
 }
 
 // path:line name
@@ -135,7 +107,7 @@ pub fn put_location(out: &mut [u8], at: usize, path: &[u8], line: u32, name: &[u
 {
     let colon = put_text(out, at, path);
     let number = put_text(out, colon, b":");
-    let blank = put_number(out, number, line as u64);
+    let blank = put_number(out, number, u64::from(line));
     let named = put_text(out, blank, b" ");
     put_text(out, named, name)
 }

@@ -9,6 +9,8 @@ ghost use Rattle.text_rules.specs.Bytes.{put_at};
 ghost use Rattle.gate_rules.specs.Mean.{mean_tenths, mean_text, tenths_of};
 ghost use Rattle.mean.specs.Texts.{mean_length, tenths_length, tenths_text};
 
+use std::cmp::Ordering;
+
 // 2 to the k.
 fn pow2(k: u64) -> u64
     requires { k < 64 }
@@ -24,13 +26,11 @@ fn nearest_of(n: u64, p: u64) -> u64
 {
     let q = n / p;
     let r = n % p * 2;
-    if r < p {
-        return q;
+    match r.cmp(&p) {
+        Ordering::Less => q,
+        Ordering::Equal => q + q % 2,
+        Ordering::Greater => q + 1,
     }
-    if r == p {
-        return q + q % 2;
-    }
-    q + 1
 }
 
 // The tenths nearest to a double, from its bits. The double is +0 or above, and below 2 to the 53.
@@ -56,22 +56,12 @@ pub fn mean_tenths(total: u32, count: u32) -> u64
     tenths_of_bits(f64::to_bits(d))
 }
 
-// What is divided by: 1 where nothing was counted.
-fn divisor(count: u32) -> u32
-    ensures { (result ≡ max 1 count) × (0 < result) }
-{
-    if count == 0 {
-        return 1;
-    }
-    count
-}
-
-// The mean in tenths that is printed.
+// The mean in tenths that is printed. Where nothing was counted the division is by 1.
 fn printed(total: u32, count: u32) -> u64
     requires { total ≤ 16777216 }
     ensures { result ≡ mean_tenths total (max 1 count) }
 {
-    mean_tenths(total, divisor(count))
+    mean_tenths(total, count.max(1))
 }
 
 // A number of tenths with a point before its last digit.

@@ -2,14 +2,7 @@
 use mathlib.Core.Path.{ap, ◌∙◌}
 use Rattle.gate_rules.specs.Mean.{tenths_of, mean, mean_tenths}
 use Rattle.mean.specs.Range.{mean-good, mean-back}
-use borrow.Author.Rules.{rules}
 use Rattle.mean.proofs.mean_tenths.Goals as goal
-
-pub int_to_float-d : goal.int_to_float-d
-int_to_float-d c = search rules
-
-pub int_to_float-d-2 : goal.int_to_float-d-2
-int_to_float-d-2 c = search rules
 
 pub float_to_bits-d : goal.float_to_bits-d
 unfolding mean

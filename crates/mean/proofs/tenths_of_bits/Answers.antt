@@ -5,23 +5,10 @@ use native.Mathlib.Omega.{arith}
 use lib.Pow.{pow_pos, pow-lt}
 use lib.Ieee.Nearest.{closest}
 use Rattle.mean.specs.Laws.{bits_small, bits_large}
-use borrow.Author.Rules.{rules}
 use Rattle.mean.proofs.tenths_of_bits.Goals as goal
 
 pub returns-then-x-lt1018 : goal.returns-then-x-lt1018
 returns-then-x-lt1018 c = sym (bits_small c.args.b c.if-x-lt1018.true)
-
-pub overflow_sub-x : goal.overflow_sub-x
-overflow_sub-x c = search rules
-
-pub pow2-p-requires : goal.pow2-p-requires
-pow2-p-requires c = search rules
-
-pub overflow_add-t : goal.overflow_add-t
-overflow_add-t c = search rules
-
-pub overflow_mul-t : goal.overflow_mul-t
-overflow_mul-t c = search rules
 
 pub nearest_of-requires : goal.nearest_of-requires
 nearest_of-requires c =
