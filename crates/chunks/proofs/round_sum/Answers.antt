@@ -10,7 +10,7 @@ loop-at-preserved c =
     let l = c.loop-at in
     elim c.match-s-at.branch [
       | in-40 w ↦ rw (w.closed-is, w.opened-is) (omega arith, round_open_lem s c.args.from l.at l.closed l.opened (omega arith) l.invariant.1 w.in-40.is)
-      | in-41 w ↦ rw (w.closed-is, w.opened-is) (omega arith, round-inner s c.args.from l.at l.closed l.opened (omega arith) l.invariant.1 w.in-41.is w.if-opened-gt0.true)
-      | in-41-2 w ↦ rw (w.closed-is, w.opened-is) (omega arith, round_outer s c.args.from l.at l.closed l.opened (omega arith) l.invariant.1 w.in-41.is w.if-opened-gt0.false)
+      | in-41 w ↦ rw (w.closed-is, w.opened-is) (omega arith, round-inner s c.args.from l.at l.closed l.opened (omega arith) l.invariant.1 w.in-41.is (omega arith))
+      | in-41-2 w ↦ rw (w.closed-is, w.opened-is) (omega arith, round_outer s c.args.from l.at l.closed l.opened (omega arith) l.invariant.1 w.in-41.is (omega arith))
       | in_default w ↦ rw (w.closed-is, w.opened-is) (omega arith, round-other s c.args.from l.at l.closed l.opened (omega arith) l.invariant.1 (λ e. omega (arith, e)) (λ e. omega (arith, e)))
     ]
