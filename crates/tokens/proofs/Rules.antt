@@ -1,7 +1,7 @@
 -- Each rule at a place `i` of a text `s`: where it fits and where not, by the bytes there; and which rules the first byte leaves.
 use mathlib.Core.Path.{◌≡◌, ap, sym, ◌∙◌}
 use mathlib.Core.Logic.{◌⊎◌, ◌≢◌, ⊎_elim}
-use mathlib.Core.Bool.{true, false, not, ◌&&◌, and-false}
+use mathlib.Core.Bool.{Bool, true, false, not, ◌&&◌, and-false}
 use mathlib.Core.List.{List}
 use Prim.Native.Nat.{ℕ, ◌+◌, ◌-◌, ◌≤◌, ◌<◌, min}
 use native.Mathlib.Omega.{arith}
@@ -12,8 +12,8 @@ use lib.Seq.{get_or-drop, drop-drop}
 use Rattle.text_rules.specs.Bytes.{◌or_else◌}
 use Rattle.text_rules.specs.Classes.{apostrophe, backslash, is_word, letter_b, letter_r, lf, quote, slash, star}
 use Rattle.text_rules.proofs.ScanLaws.{bytes_before-more, head_at, opens_at, or_else_zero, take_same}
-use Rattle.text_rules.specs.Search.{bytes_before, opens}
-use Rattle.text_rules.proofs.SearchLaws.{in_text}
+use Rattle.text_rules.specs.Search.{bytes_before, opens, run}
+use Rattle.text_rules.proofs.SearchLaws.{in_text, run_length}
 use Rattle.source_rules.specs.Blank.{block_length, block_token, char_token, escape_token, hashes, line_token, raw_length, raw_letters, raw_token, string_length, string_token, token_length}
 
 -- a rule at the head of `d` whose first byte is not there
@@ -196,3 +196,7 @@ module _ (s : List ℕ) (i : ℕ) where
     token_other a b c d e =
         let h = sym (head_at s i) in
         token_none (raw_other p here (λ x. c (h ∙ x)) (λ x. b (h ∙ x))) a d e
+
+-- a run stands inside the text
+pub run_within : (p : ℕ → Bool) (s : List ℕ) (i : ℕ) → i ≤ length s → i + run p (drop i s) ≤ length s
+run_within p s i h = omega (arith, run_length p (drop i s), length-drop i s)

@@ -3,12 +3,15 @@
 // no token is looked at once.
 #![tactic(auto)]
 
-ghost use Rattle.std.specs.Prelude.{◌≡◌, ◌&&◌, false, ◌∷◌, ◌+◌, ◌≤◌, ◌<◌, min, eqb, length, get_or, drop};
+ghost use Rattle.std.specs.Prelude.{◌≡◌, ◌==◌, ◌&&◌, not, false, ◌∷◌, ◌+◌, ◌≤◌, ◌<◌, eqb, length, get_or, drop};
+ghost use Rattle.std.specs.List.{prefix_len};
 ghost use Rattle.text_rules.specs.Bytes.{◌or_else◌};
 ghost use Rattle.text_rules.specs.Classes.{apostrophe, lf, slash};
 ghost use Rattle.text_rules.specs.Search.{bytes_before};
 ghost use Rattle.source_rules.specs.Blank.{block_length, block_token, char_token, escape_token, hashes, line_token, raw_length, raw_letters, raw_token, string_length, token_length};
-ghost use Rattle.tokens.specs.Steps.{Steps};
+ghost use Rattle.tokens.specs.Steps.{Found, Steps};
+
+use seek::{byte, byte_before};
 
 pub const LF: u8 = b'\n';
 
@@ -30,45 +33,27 @@ pub struct Cursor {
     pub at: usize,
 }
 
-// The byte at a place, 0 past the end.
-fn byte(s: &[u8], at: usize) -> u8
-    ensures { result ≡ get_or s.now at 0 }
-{
-    if at < s.len() { s[at] } else { 0 }
-}
-
-// The byte before a place, 0 at the start.
-fn byte_before(s: &[u8], at: usize) -> u8
-    ensures { result ≡ get_or (0 ∷ s.now) at 0 }
-{
-    if at == 0 { 0 } else { byte(s, at - 1) }
-}
-
 // Whether two bytes are a given pair.
 fn pair(a: u8, b: u8, x: u8, y: u8) -> bool
     ensures { result ≡ (eqb a x && eqb b y) }
 {
-    if a == x { b == y } else { false }
-}
-
-pub fn least(a: usize, b: usize) -> usize
-    ensures { result ≡ min a b }
-{
-    if a < b { a } else { b }
+    a == x && b == y
 }
 
 // The number of bytes before the first `x`.
-fn find(s: &[u8], x: u8) -> usize
-    ensures { Steps s.now 0 (bytes_before x s.now) result }
+fn before(s: &[u8], x: u8) -> usize
+    ensures count { result ≡ prefix_len (λ b. not (b == x)) s.now }
+    ensures inside { result ≤ length s.now }
 {
-    let mut i = 0;
-    while i < s.len() {
-        if s[i] == x {
-            return i;
-        }
-        i += 1;
-    }
-    i
+    s.iter().take_while(|b| **b != x).count()
+}
+
+// The number of hashes at the head.
+fn head_hashes(s: &[u8]) -> usize
+    ensures count { result ≡ prefix_len (λ b. b == HASH) s.now }
+    ensures inside { result ≤ length s.now }
+{
+    s.iter().take_while(|b| **b == HASH).count()
 }
 
 impl Cursor {
@@ -77,14 +62,8 @@ impl Cursor {
         requires { self.at ≤ length s.now }
         ensures { Steps s.now self.at (hashes (drop self.at s.now)) result.at }
     {
-        let mut at = self.at;
-        while at < s.len() {
-            if s[at] != HASH {
-                return Cursor { at };
-            }
-            at += 1;
-        }
-        Cursor { at }
+        let many = head_hashes(&s[self.at..]);
+        Cursor { at: self.at + many }
     }
 
     // Past a line comment whose slashes stand before.
@@ -92,14 +71,9 @@ impl Cursor {
         requires { self.at ≤ length s.now }
         ensures { Steps s.now self.at (bytes_before lf (drop self.at s.now)) result.at }
     {
-        let mut at = blocks::past(s, self.at, LF);
-        while at < s.len() {
-            if s[at] == LF {
-                return Cursor { at };
-            }
-            at += 1;
-        }
-        Cursor { at }
+        let at = blocks::past(s, self.at, LF);
+        let many = before(&s[at..], LF);
+        Cursor { at: at + many }
     }
 
     // Past a block comment whose opening mark stands before.
@@ -170,98 +144,91 @@ impl Cursor {
         Cursor { at }
     }
 
-    // Past the comment that a slash here begins, or the same place where it begins none.
-    fn comment(self, s: &[u8]) -> Cursor
+    // Past the comment that a slash here begins; none where it begins none.
+    fn comment(self, s: &[u8]) -> Option<Cursor>
         requires { (self.at < length s.now) × (get_or s.now self.at 0 ≡ slash) }
-        ensures { Steps s.now self.at (line_token (drop self.at s.now) or_else block_token (drop self.at s.now)) result.at }
+        ensures { Found s.now self.at (line_token (drop self.at s.now) or_else block_token (drop self.at s.now)) result }
     {
         let at = self.at;
         match byte(s, at + 1) {
-            SLASH => Cursor { at: at + 2 }.line_body(s),
-            STAR => Cursor { at: at + 2 }.block_body(s),
-            _ => self,
+            SLASH => Some(Cursor { at: at + 2 }.line_body(s)),
+            STAR => Some(Cursor { at: at + 2 }.block_body(s)),
+            _ => None,
         }
     }
 
-    // Past the letters of a raw opening.
-    fn raw_letters(self, s: &[u8]) -> Cursor
+    // Past the letters of a raw opening; none where none stand here.
+    fn raw_letters(self, s: &[u8]) -> Option<Cursor>
         requires { self.at < length s.now }
-        ensures { Steps s.now self.at (raw_letters (drop self.at s.now)) result.at }
+        ensures { Found s.now self.at (raw_letters (drop self.at s.now)) result }
     {
         let at = self.at;
         if s[at] == b'r' {
-            return Cursor { at: at + 1 };
+            return Some(Cursor { at: at + 1 });
         }
         if pair(s[at], byte(s, at + 1), b'b', b'r') {
-            return Cursor { at: at + 2 };
+            return Some(Cursor { at: at + 2 });
         }
-        self
+        None
     }
 
-    // Past the raw string that opens here, or the same place where none does. What follows the letters rules out most words, so the byte before is tested last.
-    fn raw_string(self, s: &[u8]) -> Cursor
+    // Past the raw string that opens here; none where none does. What follows the letters rules out most words, so the byte before is tested last.
+    fn raw_string(self, s: &[u8]) -> Option<Cursor>
         requires { self.at < length s.now }
-        ensures { Steps s.now self.at (raw_token (get_or (0 ∷ s.now) self.at 0) (drop self.at s.now)) result.at }
+        ensures { Found s.now self.at (raw_token (get_or (0 ∷ s.now) self.at 0) (drop self.at s.now)) result }
     {
-        let at = self.at;
-        let letters = self.raw_letters(s);
-        let k = letters.at;
-        if k == at {
-            return self;
-        }
+        let letters = self.raw_letters(s)?;
         let opening = letters.hashes(s);
-        let q = opening.at;
-        if byte(s, q) != QUOTE {
-            return self;
+        if byte(s, opening.at) != QUOTE {
+            return None;
         }
-        if classes::is_word(byte_before(s, at)) {
-            return self;
+        if classes::is_word(byte_before(s, self.at)) {
+            return None;
         }
-        Cursor { at: q + 1 }.raw_body(s, q - k)
+        let body = Cursor { at: opening.at + 1 };
+        Some(body.raw_body(s, opening.at - letters.at))
     }
 
-    // A character literal whose second byte is a backslash.
-    fn escape(self, s: &[u8]) -> Cursor
+    // Past a character literal whose second byte is a backslash; none where it is not closed in time.
+    fn escape(self, s: &[u8]) -> Option<Cursor>
         requires { self.at + 2 ≤ length s.now }
-        ensures { Steps s.now self.at (escape_token (drop self.at s.now)) result.at }
+        ensures { Found s.now self.at (escape_token (drop self.at s.now)) result }
     {
-        let at = self.at;
-        let from = at + 2;
-        let to = least(at + 12, s.len());
-        let q = find(&s[from..to], APOSTROPHE);
-        if q < to - from {
-            return Cursor { at: from + q + 1 };
+        let from = self.at + 2;
+        let window = &s[from..(self.at + 12).min(s.len())];
+        let many = before(window, APOSTROPHE);
+        if many == window.len() {
+            return None;
         }
-        self
+        Some(Cursor { at: from + many + 1 })
     }
 
-    // Past the character literal that an apostrophe here opens, or the same place where it opens none.
-    fn char_literal(self, s: &[u8]) -> Cursor
+    // Past the character literal that an apostrophe here opens; none where it opens none.
+    fn char_literal(self, s: &[u8]) -> Option<Cursor>
         requires { (self.at < length s.now) × (get_or s.now self.at 0 ≡ apostrophe) }
-        ensures { Steps s.now self.at (char_token (drop self.at s.now)) result.at }
+        ensures { Found s.now self.at (char_token (drop self.at s.now)) result }
     {
         let at = self.at;
         if byte(s, at + 1) == BACKSLASH {
             return self.escape(s);
         }
         if byte(s, at + 2) == APOSTROPHE {
-            return Cursor { at: at + 3 };
+            return Some(Cursor { at: at + 3 });
         }
-        self
+        None
     }
 
-    // Past the token that opens here, or the same place where none does.
-    pub fn token(self, s: &[u8]) -> Cursor
+    // Past the token that opens here; none where none does.
+    pub fn token(self, s: &[u8]) -> Option<Cursor>
         requires { self.at < length s.now }
-        ensures { Steps s.now self.at (token_length (get_or (0 ∷ s.now) self.at 0) (drop self.at s.now)) result.at }
+        ensures { Found s.now self.at (token_length (get_or (0 ∷ s.now) self.at 0) (drop self.at s.now)) result }
     {
-        let at = self.at;
-        match s[at] {
+        match s[self.at] {
             SLASH => self.comment(s),
             b'b' | b'r' => self.raw_string(s),
-            QUOTE => Cursor { at: at + 1 }.string_body(s),
+            QUOTE => Some(Cursor { at: self.at + 1 }.string_body(s)),
             APOSTROPHE => self.char_literal(s),
-            _ => self,
+            _ => None,
         }
     }
 }

@@ -1,6 +1,7 @@
 -- `tokens::Cursor::char_literal` meets its contract: after an apostrophe the next two bytes decide.
 use Prim.Native.Nat.{◌+◌}
-use mathlib.Core.Path.{◌∙◌, sym}
+use mathlib.Core.Path.{◌∙◌, subst, sym}
+use Rattle.tokens.specs.Steps.{Found}
 use native.Mathlib.Omega.{arith}
 use Rattle.text_rules.proofs.SearchLaws.{in_text}
 use Rattle.tokens.proofs.Rules.{char_escape, char_none, char-plain}
@@ -13,7 +14,7 @@ escape-requires c = let a = c.args in
 
 pub returns-then-byte-eq-BACKSLASH : goal.returns-then-byte-eq-BACKSLASH
 returns-then-byte-eq-BACKSLASH c = let a = c.args in
-    omega (arith, char_escape a.s.now a.self.at c.requires.1 (sym c.byte.ensures ∙ c.if-byte-eq-BACKSLASH.true))
+    subst (λ n. Found a.s.now a.self.at n c.escape.result) (sym (char_escape a.s.now a.self.at c.requires.1 (sym c.byte.ensures ∙ c.if-byte-eq-BACKSLASH.true))) c.escape.ensures
 
 pub returns-then-byte-eq-APOSTROPHE : goal.returns-then-byte-eq-APOSTROPHE
 returns-then-byte-eq-APOSTROPHE c = let a = c.args in

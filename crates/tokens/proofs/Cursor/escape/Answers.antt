@@ -1,22 +1,31 @@
--- `tokens::Cursor::escape` meets its contract: the part searched is the definition's window of ten bytes, cut at the end of the text.
-use Prim.Native.Nat.{◌+◌, ◌-◌}
-use native.Mathlib.Omega.{arith}
-use lib.ListN.{drop, length-drop, length-take, take}
+-- The part searched is the definition's window of ten bytes, cut at the end of the text.
+use Rattle.std.proofs.Common.{◌≡◌, ◌≤◌, ◌+◌, ◌-◌, length, take, drop, arith, rules, not, sym, ◌∙◌, length-drop, length-take, min}
+use Rattle.std.specs.Prelude.{nat_eq, ℕ}
+use Rattle.text_rules.specs.Search.{bytes_before}
+use Rattle.text_rules.proofs.SearchLaws.{run_length}
+use Rattle.seek.proofs.Library.{run_prefix}
 use Rattle.tokens.proofs.Rules.{escape_fits, escape_not, window}
 use Rattle.tokens.proofs.Cursor.escape.Goals as goal
 
-pub returns-then-q-to : goal.returns-then-q-to
-returns-then-q-to c = let a = c.args in
-    let to = c.least-to.result in
-    let w = take (to - (a.self.at + 2)) (drop (a.self.at + 2) a.s.now) in
-    let n = length-take (to - (a.self.at + 2)) (drop (a.self.at + 2) a.s.now) in
-    let d = length-drop (a.self.at + 2) a.s.now in
-    omega (arith, escape_fits a.s.now a.self.at w (window a.s.now a.self.at to c.least-to.ensures (omega arith)) (omega arith))
+pub returns-then-many-window : goal.returns-then-many-window
+returns-then-many-window c =
+    let s = c.args.s.now in
+    let at = c.args.self.at in
+    let end = c.min.result in
+    let least : end ≡ min (at + 12) (length s) = search rules in
+    let w = take (end - (at + 2)) (drop (at + 2) s) in
+    let n : c.before-many.result ≡ bytes_before 39 w = c.before-many.ensures.count ∙ sym (run_prefix (λ (b : ℕ). not (nat_eq b 39)) w) in
+    escape_not s at w (window s at end least (omega arith)) (omega (arith, n, c.if-many-window.true))
 
 pub returns : goal.returns
-returns c = let a = c.args in
-    let to = c.least-to.result in
-    let w = take (to - (a.self.at + 2)) (drop (a.self.at + 2) a.s.now) in
-    let n = length-take (to - (a.self.at + 2)) (drop (a.self.at + 2) a.s.now) in
-    let d = length-drop (a.self.at + 2) a.s.now in
-    omega (arith, escape_not a.s.now a.self.at w (window a.s.now a.self.at to c.least-to.ensures (omega arith)) (omega arith))
+returns c =
+    let s = c.args.s.now in
+    let at = c.args.self.at in
+    let end = c.min.result in
+    let least : end ≡ min (at + 12) (length s) = search rules in
+    let w = take (end - (at + 2)) (drop (at + 2) s) in
+    let size : length w ≡ min (end - (at + 2)) (length s - (at + 2)) = simp (length-take, length-drop) in
+    let n : c.before-many.result ≡ bytes_before 39 w = c.before-many.ensures.count ∙ sym (run_prefix (λ (b : ℕ). not (nat_eq b 39)) w) in
+    let most : bytes_before 39 w ≤ length w = run_length (λ (b : ℕ). not (nat_eq b 39)) w in
+    let e = escape_fits s at w (window s at end least (omega arith)) (omega (arith, n, most, c.if-many-window.false)) in
+    record { some = omega (arith, e); place = omega (arith, e, n); inside = omega (arith, e, n, most, size, least, c.if-many-window.false) }

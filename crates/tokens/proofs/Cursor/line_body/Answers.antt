@@ -1,32 +1,16 @@
--- `tokens::Cursor::line_body` meets its contract: at each turn the bytes passed and those before the first LF of the rest make those asked at the start.
-use Prim.Native.Nat.{ℕ}
-use native.Mathlib.Omega.{arith}
-use mathlib.Core.Bool.{not}
-use lib.Dec.{eqb}
-use Rattle.text_rules.specs.Classes.{lf}
-use Rattle.text_rules.proofs.ScanLaws.{bytes_before-more, bytes_before-stop, run_end}
+-- The bytes passed by blocks and those behind them are those before the first LF.
+use Rattle.std.proofs.Common.{arith, ◌∙◌, ◌-◌, ap, sym, length, take, drop, not, ℕ}
+use Rattle.seek.proofs.Library.{run_prefix}
+use Rattle.std.specs.Prelude.{nat_eq}
+use Rattle.text_rules.specs.Search.{bytes_before}
+use Rattle.text_rules.proofs.ScanLaws.{rest_part}
+use Rattle.tokens.proofs.Rules.{run_within}
 use Rattle.tokens.proofs.Cursor.line_body.Goals as goal
 
-pub past-at-requires : goal.past-at-requires
-past-at-requires c = omega arith
-
-pub loop-at-init : goal.loop-at-init
-loop-at-init c = omega (arith, c.past-at.ensures.0)
-
-pub bounds-s-at : goal.bounds-s-at
-bounds-s-at c = omega arith
-
-pub returns-then-s-at-eq-LF : goal.returns-then-s-at-eq-LF
-returns-then-s-at-eq-LF c = omega (arith, c.past-at.ensures.1, bytes_before-stop c.args.s.now c.loop-at.at (omega arith) lf c.if-s-at-eq-LF.true)
-
-pub overflow_add-at : goal.overflow_add-at
-overflow_add-at c = omega arith
-
-pub loop-at-smaller : goal.loop-at-smaller
-loop-at-smaller c = omega arith
-
-pub loop-at-preserved : goal.loop-at-preserved
-loop-at-preserved c = omega (arith, bytes_before-more c.args.s.now c.loop-at.at (omega arith) lf c.if-s-at-eq-LF.false)
-
 pub returns : goal.returns
-returns c = omega (arith, c.past-at.ensures.1, run_end c.args.s.now c.loop-at.at (λ (x : ℕ). not (eqb x lf)) c.loop-at-test.false)
+returns c =
+    let s = c.args.s.now in
+    let at = c.past-at.result in
+    let e = c.before-many.ensures.count ∙ sym (run_prefix (λ (b : ℕ). not (nat_eq b 10)) (take (length s - at) (drop at s))) ∙ ap (bytes_before 10) (rest_part s at) in
+    let w = run_within (λ (b : ℕ). not (nat_eq b 10)) s at c.past-at.ensures.0 in
+    record { place = omega (arith, e, c.past-at.ensures.1); inside = omega (arith, e, w) }
