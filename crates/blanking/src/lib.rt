@@ -3,7 +3,7 @@
 // number of times.
 #![tactic(auto)]
 
-ghost use Rattle.std.specs.Prelude.{◌≡◌, true, ◌++◌, ◌+◌, ◌≤◌, ◌<◌, length, take, drop};
+ghost use Rattle.std.specs.Prelude.{◌≡◌, ◌++◌, ◌+◌, ◌≤◌, ◌<◌, length, take, drop};
 ghost use Rattle.text_rules.specs.Search.{part};
 ghost use Rattle.source_rules.specs.Blank.{blanked, put};
 ghost use Rattle.blanking.specs.Bare.{AllBare, Answered, NoToken, finished};
@@ -38,12 +38,10 @@ impl Cursor {
         requires { (self.at ≤ end) × (end ≤ length text.now) × (length text.now ≤ length output.old) }
         ensures { (result.at ≡ end) × (finished text.now output.new end end ≡ finished text.now output.old self.at end) }
     {
-        let mut at = self.at;
-        while at < end {
+        for at in self.at..end {
             output[at] = blank_byte(text[at]);
-            at += 1;
         }
-        Cursor { at }
+        Cursor { at: end }
     }
 
     // Writes the token that opens here, or else the byte here, and goes past it.
@@ -52,45 +50,24 @@ impl Cursor {
         ensures { (self.at < result.at) × (result.at ≤ length text.now) × (finished text.now output.new result.at result.at ≡ finished text.now output.old self.at self.at) }
     {
         let at = self.at;
-        let token = tokens::Cursor { at }.token(text);
-        if at < token.at {
-            return self.fill(text, output, token.at);
+        match (tokens::Cursor { at }).token(text) {
+            Some(token) => self.fill(text, output, token.at),
+            None => {
+                output[at] = text[at];
+                Cursor { at: at + 1 }
+            }
         }
-        output[at] = text[at];
-        Cursor { at: at + 1 }
     }
 }
 
-// Whether the block at a place has none of the bytes by which a token is told.
-fn bare_block(s: &[u8], at: usize) -> bool
-    requires { at + 16 ≤ length s.now }
-    ensures { result ≡ true → AllBare s.now at (at + 16) }
-{
-    if !blocks::lacks(s, at, SLASH) {
-        return false;
-    }
-    if !blocks::lacks(s, at, QUOTE) {
-        return false;
-    }
-    if !blocks::lacks(s, at, APOSTROPHE) {
-        return false;
-    }
-    blocks::lacks(s, at, HASH)
-}
-
-// Past such blocks.
+// Past the blocks from a place on that have none of the bytes by which a token is told. All four are asked, so that the compiler asks a block at once.
 fn bare_end(s: &[u8], from: usize) -> usize
     requires { from ≤ length s.now }
     ensures { (from ≤ result) × (result ≤ length s.now) × AllBare s.now from result }
 {
-    let mut at = from;
-    while blocks::WIDTH <= s.len() - at {
-        if !bare_block(s, at) {
-            return at;
-        }
-        at += blocks::WIDTH;
-    }
-    at
+    blocks::past_while(s, from, |b| {
+        (b != SLASH) & (b != QUOTE) & (b != APOSTROPHE) & (b != HASH)
+    })
 }
 
 // Past bytes at which no token begins. The last two before a mark may be the letters of a raw opening, so they are left.
@@ -110,10 +87,8 @@ fn copy(text: &[u8], output: &mut [u8], from: usize, to: usize)
     requires { (from ≤ to) × (to ≤ length text.now) × (length text.now ≤ length output.old) × NoToken text.now from to }
     ensures { finished text.now output.new to to ≡ finished text.now output.old from from }
 {
-    let mut at = from;
-    while at < to {
+    for at in from..to {
         output[at] = text[at];
-        at += 1;
     }
 }
 
@@ -124,6 +99,7 @@ impl Cursor {
         ensures { (end ≤ result.at) × (result.at ≤ length text.now) × (finished text.now output.new result.at result.at ≡ finished text.now output.old self.at self.at) }
     {
         let mut here = self;
+        // Kept: a token may be of any length, so no `for` counts the steps.
         while here.at < end {
             here = here.step(text, output);
         }
@@ -138,7 +114,7 @@ impl Cursor {
         let at = self.at;
         let to = plain_end(text, at);
         copy(text, output, at, to);
-        let end = to + tokens::least(STRETCH, text.len() - to);
+        let end = to + STRETCH.min(text.len() - to);
         Cursor { at: to }.steps(text, output, end)
     }
 }
@@ -149,6 +125,7 @@ fn blank_all(text: &[u8], output: &mut [u8])
     ensures { output.new ≡ blanked text.now ++ drop (length text.now) output.old }
 {
     let mut here = Cursor { at: 0 };
+    // Kept: a token may be of any length, so no `for` counts the steps.
     while here.at < text.len() {
         here = here.pass(text, output);
     }

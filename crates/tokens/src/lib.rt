@@ -200,7 +200,9 @@ impl Cursor {
         if many == window.len() {
             return None;
         }
-        Some(Cursor { at: from + many + 1 })
+        Some(Cursor {
+            at: from + many + 1,
+        })
     }
 
     // Past the character literal that an apostrophe here opens; none where it opens none.

@@ -1,12 +1,7 @@
--- `blanking::copy` meets its contract: each byte that it writes leaves the finished output the same.
-use Prim.Native.Nat.{◌-◌, ◌≤◌}
+-- Each byte that is written leaves the finished output the same.
 use mathlib.Core.Path.{◌≡◌}
-use lib.ListN.{length}
 use Rattle.blanking.specs.Bare.{finished}
 use Rattle.blanking.proofs.copy.Given as goal
 
 abbrev pub invariant-loop-at : goal.invariant-loop-at
-invariant-loop-at l = (l.from ≤ l.at) × (l.at ≤ l.to) × (length l.output ≡ length l.initial.output) × (finished l.text l.output l.at l.at ≡ finished l.text l.initial.output l.from l.from)
-
-abbrev pub decreases-loop-at : goal.decreases-loop-at
-decreases-loop-at l = l.to - l.at
+invariant-loop-at l = finished l.text l.output l.at l.at ≡ finished l.text l.initial.output l.from l.from

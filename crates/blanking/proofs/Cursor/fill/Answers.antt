@@ -2,40 +2,19 @@
 use Prim.Native.Nat.{◌+◌, ℕ}
 use mathlib.Core.Path.{◌∙◌, ◌≡◌, ap, refl}
 use native.Mathlib.Omega.{arith}
-use lib.ListN.{length-set, set}
+use lib.ListN.{set}
 use Rattle.blanking.specs.Bare.{finished}
 use Rattle.blanking.proofs.Whole.{filled}
 use Rattle.blanking.proofs.Cursor.fill.Goals as goal
-
-pub loop-at-init : goal.loop-at-init
-loop-at-init c = (omega arith, refl, refl)
-
-pub bounds-text-at : goal.bounds-text-at
-bounds-text-at c = omega arith
-
-pub bounds-output-at : goal.bounds-output-at
-bounds-output-at c = omega arith
-
-pub overflow_add-at : goal.overflow_add-at
-overflow_add-at c = omega arith
-
-pub loop-at-smaller : goal.loop-at-smaller
-loop-at-smaller c = omega arith
 
 pub loop-at-preserved : goal.loop-at-preserved
 loop-at-preserved c = let a = c.args in
     let s = a.text.now in
     let e = a.end in
-    let i = c.loop-at.at in (
-      omega arith,
-      length-set c.loop-at.output i c.blank_byte.result ∙ c.loop-at.invariant.1,
-      ap (λ (v : ℕ). finished s (set c.loop-at.output i v) (i + 1) e) c.blank_byte.ensures ∙ filled s c.loop-at.output i (omega arith) (omega arith) e (omega arith) ∙ c.loop-at.invariant.2,
-    )
-
-pub shape_of-output : goal.shape_of-output
-shape_of-output c = omega arith
+    let i = c.loop-at.at in
+    ap (λ (v : ℕ). finished s (set c.loop-at.output i v) (i + 1) e) c.blank_byte.ensures ∙ filled s c.loop-at.output i (omega arith) (omega arith) e (omega arith) ∙ c.loop-at.invariant
 
 pub returns : goal.returns
 returns c = let a = c.args in
     let e : a.end ≡ c.loop-at.at = omega arith in
-    (omega arith, ap (λ (k : ℕ). finished a.text.now c.loop-at.output k a.end) e ∙ c.loop-at.invariant.2)
+    (refl, ap (λ (k : ℕ). finished a.text.now c.loop-at.output k a.end) e ∙ c.loop-at.invariant)

@@ -5,4 +5,4 @@ use native.Mathlib.Omega.{arith}
 use Rattle.blanking.proofs.Cursor.pass.Goals as goal
 
 pub returns : goal.returns
-returns c = (omega (arith, c.steps.ensures.0, c.least.ensures, c.plain_end-to.ensures.0), c.steps.ensures.1, c.steps.ensures.2 ∙ c.copy.ensures)
+returns c = (omega (arith, c.steps.ensures.0, c.min.ensures, c.plain_end-to.ensures.0), c.steps.ensures.1, c.steps.ensures.2 ∙ c.copy.ensures)

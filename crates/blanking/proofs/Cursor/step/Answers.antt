@@ -6,15 +6,16 @@ use Rattle.blanking.specs.Bare.{finished}
 use Rattle.blanking.proofs.Whole.{begun, copied}
 use Rattle.blanking.proofs.Cursor.step.Goals as goal
 
-pub returns-then-at-token : goal.returns-then-at-token
-returns-then-at-token c = let a = c.args in
+pub returns-in-Some : goal.returns-in-Some
+returns-in-Some c = let a = c.args in
     let s = a.text.now in
-    let i = a.self.at in (
-      omega arith,
-      omega arith,
-      ap (λ (k : ℕ). finished s c.fill.new.output k k) c.fill.ensures.0 ∙ c.fill.ensures.1 ∙ begun s a.output.now i c.token-token.result.at c.token-token.ensures.place,
+    let i = a.self.at in
+    let k = c.in-Some.ensures in (
+      omega (arith, k.some, k.place),
+      omega (arith, k.inside),
+      ap (λ (k : ℕ). finished s c.fill.new.output k k) c.fill.ensures.0 ∙ c.fill.ensures.1 ∙ begun s a.output.now i c.in-Some.token.at k.place,
     )
 
-pub returns : goal.returns
-returns c = let a = c.args in
-    (omega arith, omega arith, copied a.text.now a.output.now a.self.at (omega arith) (omega arith) (omega arith))
+pub returns-in-None : goal.returns-in-None
+returns-in-None c = let a = c.args in
+    (omega arith, omega arith, copied a.text.now a.output.now a.self.at (omega arith) (omega arith) c.in-None.ensures)

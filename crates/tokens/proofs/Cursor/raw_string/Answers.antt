@@ -41,7 +41,7 @@ returns c =
     let a = c.args in
     let letters = c.in_ok-letters.ensures in
     let fits =
-        raw_fits a.s.now a.self.at (get_or (0 ∷ a.s.now) a.self.at 0) c.in_ok-letters.letters.at letters.place c.hashes-opening.result.at c.hashes-opening.ensures.place
-            (omega (arith, letters.some, letters.place))
-            (sym (ap (λ (k : ℕ). is_word k) c.byte_before.ensures) ∙ sym c.is_word.ensures ∙ c.if-is_word.false) (sym c.byte.ensures ∙ c.if-byte-ne-QUOTE.false) in
+    raw_fits a.s.now a.self.at (get_or (0 ∷ a.s.now) a.self.at 0) c.in_ok-letters.letters.at letters.place c.hashes-opening.result.at c.hashes-opening.ensures.place
+    (omega (arith, letters.some, letters.place))
+    (sym (ap (λ (k : ℕ). is_word k) c.byte_before.ensures) ∙ sym c.is_word.ensures ∙ c.if-is_word.false) (sym c.byte.ensures ∙ c.if-byte-ne-QUOTE.false) in
     record { some = omega (arith, fits, letters.some, letters.place, c.hashes-opening.ensures.place); place = omega (arith, fits, letters.place, c.hashes-opening.ensures.place); inside = omega arith }
