@@ -32,17 +32,16 @@ pub fn body_until(s: &[u8], t: &[u16; 36865], from: usize, to: usize, n: Counts)
 {
     let mut at = from;
     let mut counts = n;
+    // Kept: a step is a chunk, or the bytes up to the next one, so no `for` counts the steps.
     while at < to {
-        let past = past_before(s, t, at, to, counts);
-        match past {
+        match past_before(s, t, at, to, counts) {
             Some(k) => {
                 at += chunks::SIZE;
                 counts = k;
             }
             None => {
                 let stop = chunks::edge_after(at, to);
-                let met = flat::body_before(s, at, stop, counts);
-                match met {
+                match flat::body_before(s, at, stop, counts) {
                     Reached::Brace(p) => {
                         return Reached::Brace(p);
                     }
@@ -90,10 +89,8 @@ pub fn forget(f: &mut [usize; 259], at: usize)
 {
     f[0] = at;
     f[258] = at;
-    let mut i: usize = 0;
-    while i < MOST {
+    for i in 0..MOST {
         f[194 + i] = 0;
-        i += 1;
     }
 }
 
@@ -131,8 +128,7 @@ fn move_on(
     if number == 0 {
         return;
     }
-    let met = moved(s, t, from, to, c, counts_of(f, i));
-    match met {
+    match moved(s, t, from, to, c, counts_of(f, i)) {
         Reached::Further(n) => {
             put(f, i, n, number);
         }
@@ -153,10 +149,8 @@ fn move_all(s: &[u8], t: &[u16; 36865], to: usize, f: &mut [usize; 259])
 {
     let from = f[0];
     let c = chunks::body_sum(s, from, to);
-    let mut i: usize = 0;
-    while i < MOST {
+    for i in 0..MOST {
         move_on(s, t, from, to, c, i, f);
-        i += 1;
     }
     f[0] = to;
 }
@@ -170,6 +164,7 @@ fn advance(s: &[u8], t: &[u16; 36865], to: usize, f: &mut [usize; 259])
     ensures { (get_or f.new 0 0 ≡ to) × Recalls s.now f.new }
 {
     let mut at = f[0];
+    // Kept: the last step is shorter than a chunk, so no `for` counts the steps.
     while at < to {
         at = flat::ahead(at, chunks::SIZE, to);
         move_all(s, t, at, f);
@@ -181,10 +176,7 @@ fn is_same(a: Counts, b: Counts) -> bool
     requires { Counted a 9223372036854775807 × Counted b 9223372036854775807 }
     ensures { result ≡ true → (a.angle ≡ b.angle) × (a.opened + b.closed ≡ b.opened + a.closed) }
 {
-    if a.angle != b.angle {
-        return false;
-    }
-    a.opened + b.closed == b.opened + a.closed
+    a.angle == b.angle && a.opened + b.closed == b.opened + a.closed
 }
 
 // The number of a search that is kept with the same depths, 0 where none is.
@@ -194,15 +186,11 @@ fn find(f: &[usize; 259], n: Counts) -> usize
         × ((i : ℕ) → i < 64 → number_at f.now i ≢ 0 → Counted (counts_at f.now i) 9223372036854775807) }
     ensures { Meets f.now n result }
 {
-    let mut i: usize = 0;
-    while i < MOST {
+    for i in 0..MOST {
         let number = f[194 + i];
-        if number != 0 {
-            if is_same(counts_of(f, i), n) {
-                return number;
-            }
+        if number != 0 && is_same(counts_of(f, i), n) {
+            return number;
         }
-        i += 1;
     }
     0
 }
@@ -215,11 +203,7 @@ pub fn recall(s: &[u8], t: &[u16; 36865], at: usize, n: Counts, f: &mut [usize; 
         × (get_or f.new 0 0 ≡ at)
         × Recalls s.now f.new }
 {
-    if at < f[0] {
-        forget(f, at);
-        return 0;
-    }
-    if f[258] <= at {
+    if at < f[0] || f[258] <= at {
         forget(f, at);
         return 0;
     }
@@ -232,14 +216,11 @@ fn free_index(f: &[usize; 259]) -> usize
     requires { length f.now ≡ 259 }
     ensures { result < 64 }
 {
-    let mut i: usize = 0;
-    while i < MOST {
-        if f[194 + i] == 0 {
-            return i;
-        }
-        i += 1;
-    }
-    f[1] % MOST
+    let numbers = &f[194..194 + MOST];
+    numbers
+        .iter()
+        .position(|number| *number == 0)
+        .unwrap_or(f[1] % MOST)
 }
 
 // A search is kept, in place of another where all indices keep one. It goes as far as `end`: nothing rests on that but time.
@@ -266,11 +247,9 @@ pub fn mark_after(f: &[usize; 259], from: usize, end: usize) -> usize
 {
     let mark = flat::ahead(from, 2 * STEP - from % STEP, end);
     let place = f[0];
-    if place < mark {
-        return mark;
+    if place < mark || flat::ahead(from, REACH, end) < place {
+        mark
+    } else {
+        place
     }
-    if flat::ahead(from, REACH, end) < place {
-        return mark;
-    }
-    place
 }

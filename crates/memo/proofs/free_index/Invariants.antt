@@ -1,9 +1,0 @@
--- `memo::free_index` meets its contract: every answer is an index.
-use Prim.Native.Nat.{◌-◌, ◌≤◌}
-use Rattle.memo.proofs.free_index.Given as goal
-
-abbrev pub invariant-loop-i : goal.invariant-loop-i
-invariant-loop-i l = l.i ≤ 64
-
-abbrev pub decreases-loop-i : goal.decreases-loop-i
-decreases-loop-i l = 64 - l.i
