@@ -1,5 +1,5 @@
 -- `prefix::alike` meets its contract: while the bytes before the i-th are the same, the flag holds.
-use Prim.Native.Nat.{◌+◌, ◌-◌, ◌≤◌}
+use Prim.Native.Nat.{◌+◌}
 use mathlib.Core.Path.{◌≡◌}
 use mathlib.Core.Bool.{true}
 use lib.ListN.{drop}
@@ -7,7 +7,4 @@ use Rattle.prefix.specs.Common.{common}
 use Rattle.prefix.proofs.alike.Given as goal
 
 abbrev pub invariant-loop-i : goal.invariant-loop-i
-invariant-loop-i l = (l.i ≤ l.n) × (l.all ≡ true → common (drop l.at l.s) (drop l.at l.t) ≡ l.i + common (drop (l.at + l.i) l.s) (drop (l.at + l.i) l.t))
-
-abbrev pub decreases-loop-i : goal.decreases-loop-i
-decreases-loop-i l = l.n - l.i
+invariant-loop-i l = l.all ≡ true → common (drop l.at l.s) (drop l.at l.t) ≡ l.i + common (drop (l.at + l.i) l.s) (drop (l.at + l.i) l.t)
