@@ -12,6 +12,7 @@ use flat::{Counts, Reached};
 
 // The searches that are kept. The array's first number is the place, its second tells which search is given up next; behind them stand for each search
 // its open angle brackets, the square brackets that it has seen opened and closed, and what it finds; and last, how far they go.
+// Kept: one array of fixed length, since it is lent by the caller and a call takes no memory beside what is lent.
 const MOST: usize = 64;
 
 // The chunk at a place, where it ends before another: what a search has counted behind it. None where the search may end in it.
