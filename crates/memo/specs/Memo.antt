@@ -53,6 +53,17 @@ pub record Tells (number : ℕ) (found : Option ℕ) : Type 0 where
   pub nowhere : number ≡ 1 → found ≡ none
   pub brace : 1 < number → found ≡ some (number - 2)
 
+-- the number that tells of a brace, or that there is none
+abbrev pub number_for : Possible ℕ → ℕ
+number_for (Some place) = place + 2
+number_for None = 1
+
+-- what is known of what a search finds: nothing, or that it finds none, or the brace
+abbrev pub Known : Possible (Possible ℕ) → (found : Option ℕ) → Type 0
+Known None found = ℕ
+Known (Some None) found = found ≡ none
+Known (Some (Some place)) found = found ≡ some place
+
 pub tells-nothing : (found : Option ℕ) → Tells 0 found
 tells-nothing found = record { nowhere = λ e. absurd (omega (arith, e)); brace = λ l. absurd (omega (arith, l)) }
 

@@ -3,9 +3,10 @@
 #![tactic(auto)]
 
 ghost use Rattle.std.specs.Prelude.{◌≡◌, true, ◌≢◌, ℕ, ◌+◌, ◌≤◌, ◌<◌, length, get_or};
+ghost use Rattle.std.proofs.Math.Option.{Option};
 ghost use Rattle.flat.specs.Body.{Counted, Reaches, body_from};
 ghost use Rattle.chunks.specs.Table.{Summed};
-ghost use Rattle.memo.specs.Memo.{Entry, Keeps, Meets, Moves, Recalls, Sums, Tells, TellsPast, counts_at, Forgotten, number_at, set_entry};
+ghost use Rattle.memo.specs.Memo.{Entry, Keeps, Known, Meets, Moves, Recalls, Sums, Tells, TellsPast, counts_at, number_for, Forgotten, number_at, set_entry};
 
 use chunks::Chunk;
 use flat::{Counts, Reached};
@@ -196,20 +197,37 @@ fn find(f: &[usize; 259], n: Counts) -> usize
     0
 }
 
-// What a search finds that has so much counted at a place; 0 where that is not known. The place is kept. Searches that are kept for a place further on
+// What the number of a search tells of what it finds.
+fn told(number: usize) -> Option<Option<usize>>
+    ensures { (found : Option ℕ) → Tells number found → Known result found }
+{
+    match number {
+        0 => None,
+        1 => Some(None),
+        _ => Some(Some(number - 2)),
+    }
+}
+
+// What a search finds that has so much counted at a place, a brace or none; None where that is not known. The place is kept. Searches that are kept for a place further on
 // are given up, and all of them where none goes as far as the place: where searches do not overlap there is nothing to find, and nothing is read twice.
-pub fn recall(s: &[u8], t: &[u16; 36865], at: usize, n: Counts, f: &mut [usize; 259]) -> usize
+pub fn recall(
+    s: &[u8],
+    t: &[u16; 36865],
+    at: usize,
+    n: Counts,
+    f: &mut [usize; 259],
+) -> Option<Option<usize>>
     requires { (at ≤ length s.now) × Counted n at × Recalls s.now f.old × Summed s.now t.now }
-    ensures { Tells result (body_from s.now at n)
+    ensures { Known result (body_from s.now at n)
         × (get_or f.new 0 0 ≡ at)
         × Recalls s.now f.new }
 {
     if at < f[0] || f[258] <= at {
         forget(f, at);
-        return 0;
+        return None;
     }
     advance(s, t, at, f);
-    find(f, n)
+    told(find(f, n))
 }
 
 // Where the next search is kept: at an index that keeps none, or that of the search whose turn it is.
@@ -224,15 +242,27 @@ fn free_index(f: &[usize; 259]) -> usize
         .unwrap_or(f[1] % MOST)
 }
 
-// A search is kept, in place of another where all indices keep one. It goes as far as `end`: nothing rests on that but time.
-pub fn keep(f: &mut [usize; 259], n: Counts, number: usize, end: usize)
-    requires { length f.old ≡ 259 }
-    ensures { Keeps n number f.old f.new }
+// The number that tells what a search finds.
+fn number_of(found: Option<usize>) -> usize
+    requires { number_for found < 18446744073709551616 }
+    ensures { result ≡ number_for found }
+{
+    match found {
+        Some(place) => place + 2,
+        None => 1,
+    }
+}
+
+// A search is kept with what it finds, in place of another where all indices keep one. It goes as far as `end`: nothing rests on that but time.
+pub fn keep(f: &mut [usize; 259], n: Counts, found: Option<usize>, end: usize)
+    requires room { length f.old ≡ 259 }
+    requires fits { number_for found < 18446744073709551616 }
+    ensures { Keeps n (number_for found) f.old f.new }
 {
     let i = free_index(f);
     f[1] = i + 1;
     f[258] = f[258].max(end);
-    put(f, i, n, number);
+    put(f, i, n, number_of(found));
 }
 
 // A search is looked up at the first place that is so many bytes further on and that their number divides: by then it has met others that go far.

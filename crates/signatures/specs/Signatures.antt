@@ -7,7 +7,7 @@ use Rattle.source_rules.proofs.PlaceLaws.{body-place}
 use Rattle.flat.specs.Body.{Counted, body_from}
 use Rattle.flat.specs.declared.Counts.{Counts}
 use Rattle.chunks.specs.Passing.{TellsDepth}
-use Rattle.memo.specs.Memo.{Recalls, Tells}
+use Rattle.memo.specs.Memo.{Recalls, Tells, number_for}
 use Rattle.parts.specs.Told.{Lent, NoBody, Told, body_behind, never, no-brace, no_end, sought_from}
 use Rattle.signatures.specs.declared.Signature.{Signature}
 
@@ -54,10 +54,10 @@ pub follows_begins : (s : List ℕ) (from closed : ℕ) (r : Option Signature) �
 follows_begins s from closed (Some r) e f = (e ∙ ap some f.0, subst (λ n. body_behind s n ≡ some r.body) f.0 f.1)
 follows_begins s from closed None e f = no-brace closed e f
 
--- the number by which a search is kept that answers so
-abbrev pub number_for : Option Signature → ℕ
-number_for (Some r) = r.body + 2
-number_for None = 1
+-- the brace that opens its body
+abbrev pub body_of : Option Signature → Option ℕ
+body_of (Some r) = Some r.body
+body_of None = None
 
 -- where the list has an end, it is the body that is missing
 no-body-behind : (s : List ℕ) (from closed : ℕ) → sought_from s from 0 ≡ some closed → NoBody s from → body_behind s closed ≡ none
@@ -65,7 +65,7 @@ no-body-behind s from closed e (no_end n) = let z : ◌≡◌ {A = ℕ} 0 1 = cc
 no-body-behind s from closed e (no-brace c p n) = subst (λ k. body_behind s k ≡ none) (some_same c closed (sym p ∙ e)) n
 
 -- the number tells what a search for the body behind the list finds
-pub begins-tells : (s : List ℕ) (from closed : ℕ) (r : Option Signature) → sought_from s from 0 ≡ some closed → Begins s from r → Tells (number_for r) (body_behind s closed)
+pub begins-tells : (s : List ℕ) (from closed : ℕ) (r : Option Signature) → sought_from s from 0 ≡ some closed → Begins s from r → Tells (number_for (body_of r)) (body_behind s closed)
 begins-tells s from closed (Some r) e b =
     let brace : body_behind s closed ≡ some r.body = subst (λ k. body_behind s k ≡ some r.body) (some_same r.closed closed (sym b.0 ∙ e)) b.1 in
     let same : r.body ≡ r.body + 2 - 2 = omega arith in
@@ -73,6 +73,6 @@ begins-tells s from closed (Some r) e b =
 begins-tells s from closed None e b = record { nowhere = λ n. no-body-behind s from closed e b; brace = λ l. absurd (omega (arith, l)) }
 
 -- a brace that is told stands inside the text, so the number is not much higher than the text is long
-pub number-most : (s : List ℕ) (from : ℕ) (r : Option Signature) → Begins s from r → number_for r ≤ length s + 1
+pub number-most : (s : List ℕ) (from : ℕ) (r : Option Signature) → Begins s from r → number_for (body_of r) ≤ length s + 1
 number-most s from (Some r) b = omega (arith, body-place s (r.closed + 1) r.body b.1)
 number-most s from None b = omega arith

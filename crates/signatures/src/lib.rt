@@ -10,7 +10,7 @@ ghost use Rattle.flat.specs.Body.{Counted, body_from};
 ghost use Rattle.search.specs.Place.{place_of};
 ghost use Rattle.chunks.specs.Table.{Summed};
 ghost use Rattle.parts.specs.Told.{Lent, body_behind, sought_from};
-ghost use Rattle.signatures.specs.Signatures.{Begins, Follows, Lends, nothing_counted, number_for};
+ghost use Rattle.signatures.specs.Signatures.{Begins, Follows, Lends, body_of, nothing_counted};
 
 use flat::{Counts, Reached};
 use search::Met;
@@ -233,14 +233,13 @@ fn further_body(
     }
 }
 
-// The number by which a search for a body is kept: two more than the place of the brace, or 1 where there is none.
-fn number_of(r: Option<Signature>) -> usize
-    requires { number_for r < 18446744073709551616 }
-    ensures { result ≡ number_for r }
+// The brace that opens its body.
+fn body_of(r: Option<Signature>) -> Option<usize>
+    ensures { result ≡ body_of r }
 {
     match r {
-        Some(r) => r.body + 2,
-        None => 1,
+        Some(r) => Some(r.body),
+        None => None,
     }
 }
 
@@ -264,19 +263,14 @@ fn marked_body(
         × Lends s.now m.old t.old f.old }
     ensures { Begins s.now from result × Lends s.now m.new t.new f.new }
 {
-    let known = memo::recall(s, t, mark, n, f);
-    if known == 1 {
-        return None;
-    }
-    if 1 < known {
-        return Some(Signature {
-            closed,
-            body: known - 2,
-        });
+    match memo::recall(s, t, mark, n, f) {
+        Some(Some(body)) => return Some(Signature { closed, body }),
+        Some(None) => return None,
+        None => {}
     }
     let went = further_body(s, from, closed, mark, n, m, t);
     let sought = went.sought;
-    memo::keep(f, n, number_of(sought), went.end);
+    memo::keep(f, n, body_of(sought), went.end);
     sought
 }
 

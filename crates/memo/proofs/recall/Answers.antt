@@ -8,5 +8,5 @@ pub returns : goal.returns
 returns c =
     let a = c.args in
     let e = c.advance.ensures in
-    let told = meets-tells a.s.now _ a.n _ e.1 c.find.ensures in
-    (subst (λ p. Tells c.find.result (body_from a.s.now p a.n)) e.0 told, e.0, e.1)
+    let tells = subst (λ p. Tells c.find.result (body_from a.s.now p a.n)) e.0 (meets-tells a.s.now _ a.n _ e.1 c.find.ensures) in
+    (c.told.ensures _ tells, e.0, e.1)

@@ -1,16 +1,22 @@
--- `signatures::marked_body` meets its contract: what is kept tells what the search finds; where nothing is kept it is sought, and what is found is what is
--- told of it.
-use mathlib.Core.Path.{◌∙◌}
+-- `signatures::marked_body` meets its contract: what is known of the search is what it finds; where nothing is known the body is sought and kept, and its place
+-- lies in the text.
+use Prim.Native.Nat.{ℕ}
+use mathlib.Core.Path.{◌∙◌, ap, subst}
 use native.Mathlib.Omega.{arith}
+use Rattle.std.proofs.Common.{Option, Some}
+use Rattle.flat.specs.Body.{body_from}
+use Rattle.memo.specs.Memo.{Known}
 use Rattle.parts.specs.Told.{no-brace}
 use Rattle.signatures.specs.Signatures.{number-most}
 use Rattle.signatures.proofs.marked_body.Goals as goal
 
-pub returns-then-known-eq1 : goal.returns-then-known-eq1
-returns-then-known-eq1 c =
-    (no-brace c.args.closed c.requires.3 (c.requires.4 ∙ c.recall-known.ensures.0.nowhere c.if-known-eq1.true), (c.requires.5.0, c.recall-known.ensures.2))
-
-pub number_of-requires : goal.number_of-requires
-number_of-requires c =
+pub returns-in-Some-None : goal.returns-in-Some-None
+returns-in-Some-None c =
     let a = c.args in
-    omega (arith, number-most a.s.now a.from c.further_body-went.result.sought c.further_body-went.ensures.0, c.well_formed.0)
+    let none = subst (λ (r : Option (Option ℕ)). Known r (body_from a.s.now a.mark a.n)) (c.in-Some-None.is ∙ ap Some c.in-Some-None.field-0-is) c.recall.ensures.0 in
+    (no-brace a.closed c.requires.3 (c.requires.4 ∙ none), (c.requires.5.0, c.recall.ensures.2))
+
+pub keep-requires-clause-fits : goal.keep-requires-clause-fits
+keep-requires-clause-fits c =
+    let a = c.args in
+    rw c.body_of.ensures (omega (arith, number-most a.s.now a.from c.further_body-went.result.sought c.further_body-went.ensures.0, c.well_formed.0))
