@@ -81,18 +81,16 @@ impl Cursor {
         requires { self.at ≤ length s.now }
         ensures { Steps s.now self.at (block_length 0 0 (drop self.at s.now)) result.at }
     {
-        let mut at = self.at;
         let mut depth: usize = 0;
         let mut prev: u8 = 0;
-        while at < s.len() {
+        for at in self.at..s.len() {
             let b = s[at];
-            at += 1;
             if pair(prev, b, SLASH, STAR) {
                 depth += 1;
                 prev = 0;
             } else if pair(prev, b, STAR, SLASH) {
                 if depth == 0 {
-                    return Cursor { at };
+                    return Cursor { at: at + 1 };
                 }
                 depth -= 1;
                 prev = 0;
@@ -100,7 +98,7 @@ impl Cursor {
                 prev = b;
             }
         }
-        Cursor { at }
+        Cursor { at: s.len() }
     }
 
     // Past a raw string with `n` hashes whose opening quote stands before. Each run of hashes stands after one quote, so it is counted once.
@@ -108,19 +106,16 @@ impl Cursor {
         requires { self.at ≤ length s.now }
         ensures { Steps s.now self.at (raw_length n (drop self.at s.now)) result.at }
     {
-        let mut at = self.at;
-        while at < s.len() {
-            let b = s[at];
-            at += 1;
-            if b == QUOTE {
-                let h = Cursor { at }.hashes(s);
-                let e = h.at;
-                if n <= e - at {
-                    return Cursor { at: at + n };
+        for at in self.at..s.len() {
+            if s[at] == QUOTE {
+                let behind = at + 1;
+                let h = Cursor { at: behind }.hashes(s);
+                if n <= h.at - behind {
+                    return Cursor { at: behind + n };
                 }
             }
         }
-        Cursor { at }
+        Cursor { at: s.len() }
     }
 
     // Past a string whose opening quote stands before.
@@ -128,20 +123,18 @@ impl Cursor {
         requires { self.at ≤ length s.now }
         ensures { Steps s.now self.at (string_length false (drop self.at s.now)) result.at }
     {
-        let mut at = self.at;
         let mut skip = false;
-        while at < s.len() {
+        for at in self.at..s.len() {
             let b = s[at];
-            at += 1;
             if skip {
                 skip = false;
             } else if b == QUOTE {
-                return Cursor { at };
+                return Cursor { at: at + 1 };
             } else {
                 skip = b == BACKSLASH;
             }
         }
-        Cursor { at }
+        Cursor { at: s.len() }
     }
 
     // Past the comment that a slash here begins; none where it begins none.
