@@ -10,7 +10,7 @@ use lib.Dec.{eqb}
 use lib.ListN.{drop, get_or, length, length-drop}
 use lib.Seq.{drop-drop, get_or-drop}
 use borrow.Author.Tests.{eq-eqb, ne_eqb}
-use Rattle.text_rules.specs.Bytes.{among, ascii, if◌then◌otherwise◌, same}
+use Rattle.text_rules.specs.Bytes.{among, ascii, if◌then◌otherwise◌}
 use Rattle.text_rules.specs.Classes.{ampersand, angle_close, bar, brace_close, brace_open, equals, is_letter, is_word, lf, question}
 use Rattle.text_rules.proofs.ScanLaws.{head_at, split}
 use Rattle.text_rules.specs.Search.{count_after, opens, part, run}
@@ -72,25 +72,6 @@ module _ (s : List ℕ) (at : ℕ) (h : at < length s) where
     pub cyclomatic-same : decides (drop at s) ≡ false → cyclomatic_from n 0 (drop at s) ≡ cyclomatic_from n 0 (drop (at + piece_length (drop at s)) s)
     cyclomatic-same e = cyclomatic_jump n ∙ rw e
 
--- the words that decide, tried one after another
-module _ (w : List ℕ) where
-  abbrev words : List (List ℕ)
-  words = ascii "if" ∷ ascii "while" ∷ ascii "for" ∷ ascii "loop" ∷ []
-
-  pub word_if : same (ascii "if") w ≡ true → among w words ≡ true
-  word_if t = rw t
-
-  module _ (n1 : same (ascii "if") w ≡ false) where
-    pub word_while : same (ascii "while") w ≡ true → among w words ≡ true
-    word_while t = rw (n1, t)
-
-    module _ (n2 : same (ascii "while") w ≡ false) where
-      pub word_for : same (ascii "for") w ≡ true → among w words ≡ true
-      word_for t = rw (n1, n2, t)
-
-      pub word_loop : same (ascii "for") w ≡ false → among w words ≡ same (ascii "loop") w
-      word_loop n3 = rw (n1, n2, n3) (or-false (same (ascii "loop") w))
-
 -- a pair whose first byte is known
 module _ (c : ℕ) where
   pub pair_and : is_pair (ampersand ∷ c ∷ []) ≡ eqb c ampersand
@@ -104,6 +85,10 @@ module _ (c : ℕ) where
   pub pair_arrow : is_pair (equals ∷ c ∷ []) ≡ eqb c angle_close
   unfolding is_pair opens
   pair_arrow = refl
+
+pub no_pair : (b c : ℕ) → b ≢ ampersand → b ≢ bar → b ≢ equals → is_pair (b ∷ c ∷ []) ≡ false
+unfolding is_pair opens
+no_pair b c h k l = rw (ne_eqb b ampersand h, ne_eqb b bar k, ne_eqb b equals l)
 
 module _ (s : List ℕ) (at : ℕ) where
   pub pair-at : is_pair (drop at s) ≡ is_pair (get_or s at 0 ∷ get_or s (at + 1) 0 ∷ [])

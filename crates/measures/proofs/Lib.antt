@@ -2,3 +2,4 @@
 mod BodyLaws
 mod Cut
 mod Walking
+mod Words

@@ -3,8 +3,9 @@
 // that was found.
 #![tactic(auto)]
 
-ghost use Rattle.std.specs.Prelude.{◌≡◌, false, true, [], ◌∷◌, suc, ◌+◌, ◌≤◌, ◌<◌, max, length, drop, get_or};
-ghost use Rattle.text_rules.specs.Bytes.{among, ascii, if◌then◌otherwise◌, same};
+ghost use Rattle.std.specs.Prelude.{◌≡◌, false, true, [], ◌∷◌, ◌+◌, ◌≤◌, ◌<◌, length, drop, get_or};
+ghost use Rattle.std.specs.List.{prefix_len};
+ghost use Rattle.text_rules.specs.Bytes.{among, ascii};
 ghost use Rattle.text_rules.specs.Classes.{brace_open, is_letter, is_word};
 ghost use Rattle.text_rules.specs.Search.{run};
 ghost use Rattle.source_rules.specs.Measures.{cyclomatic_of, is_pair};
@@ -18,99 +19,58 @@ struct Shape {
     lines: usize,
 }
 
-fn larger(a: usize, b: usize) -> usize
-    ensures { result ≡ max a b }
-{
-    if a < b { b } else { a }
-}
-
 // The nesting and the lines of a body. A brace that closes nothing leaves the depth at 0.
 fn shape_of(body: &[u8]) -> Shape
     ensures { Shaped result body.now }
 {
-    let mut depth = 0;
-    let mut nesting = 0;
+    let mut depth: usize = 0;
+    let mut nesting: usize = 0;
     let mut lines = 1;
-    let mut at = 0;
-    while at < body.len() {
-        let b = body[at];
-        at += 1;
-        if b == b'{' {
-            depth += 1;
-            nesting = larger(nesting, depth);
-        } else if b == b'}' {
-            if 0 < depth {
-                depth -= 1;
+    for b in body {
+        match *b {
+            b'{' => {
+                depth += 1;
+                nesting = nesting.max(depth);
             }
-        } else if b == b'\n' {
-            lines += 1;
+            b'}' => depth = depth.saturating_sub(1),
+            b'\n' => lines += 1,
+            _ => {}
         }
     }
     Shape { nesting, lines }
 }
 
-// The place behind the word that stands at a place.
-fn word_end(table: &Classes, s: &[u8], from: usize) -> usize
-    requires { from ≤ length s.now }
-    ensures { (result ≡ from + run is_word (drop from s.now)) × (result ≤ length s.now) }
+// How long the word is that a text begins with.
+fn word_len(table: &Classes, s: &[u8]) -> usize
+    ensures count { result ≡ prefix_len is_word s.now }
+    ensures inside { result ≤ length s.now }
 {
-    let mut at = from;
-    while at < s.len() {
-        if !table.is_word(s[at]) {
-            return at;
-        }
-        at += 1;
-    }
-    at
+    s.iter().take_while(|b| table.is_word(**b)).count()
 }
 
-// Whether two texts are the same.
-fn same(s: &[u8], t: &[u8]) -> bool
-    ensures { result ≡ same s.now t.now }
+// The place behind the word that stands at a place.
+#[tactic(auto, using(crate::proofs::Words::run_from))]
+fn word_end(table: &Classes, s: &[u8], from: usize) -> usize
+    requires { from ≤ length s.now }
+    ensures end { result ≡ from + run is_word (drop from s.now) }
+    ensures inside { result ≤ length s.now }
 {
-    if s.len() != t.len() {
-        return false;
-    }
-    let mut at = 0;
-    while at < s.len() {
-        if s[at] != t[at] {
-            return false;
-        }
-        at += 1;
-    }
-    true
+    from + word_len(table, &s[from..])
 }
 
 // Whether a word adds 1 to the cyclomatic number. `match` does not: its arms do. `else` does not: its `if` does.
 fn decides_word(word: &[u8]) -> bool
     ensures { result ≡ among word.now (ascii "if" ∷ ascii "while" ∷ ascii "for" ∷ ascii "loop" ∷ []) }
 {
-    if same(b"if", word) {
-        return true;
-    }
-    if same(b"while", word) {
-        return true;
-    }
-    if same(b"for", word) {
-        return true;
-    }
-    same(b"loop", word)
+    matches!(word, b"if" | b"while" | b"for" | b"loop")
 }
 
 // Whether two bytes are && or || or =>.
+#[tactic(auto, using(crate::proofs::BodyLaws::pair_and, crate::proofs::BodyLaws::pair_or, crate::proofs::BodyLaws::pair_arrow, crate::proofs::BodyLaws::no_pair))]
 fn is_pair(b: u8, c: u8) -> bool
     ensures { result ≡ is_pair (b ∷ c ∷ []) }
 {
-    if b == b'&' {
-        return c == b'&';
-    }
-    if b == b'|' {
-        return c == b'|';
-    }
-    if b == b'=' {
-        return c == b'>';
-    }
-    false
+    matches!((b, c), (b'&', b'&') | (b'|', b'|') | (b'=', b'>'))
 }
 
 // A piece of a body: a word, a pair, or one byte, up to `end`.
@@ -168,16 +128,16 @@ fn cyclomatic(body: &[u8]) -> usize
     let table = classes::table();
     let mut n = 1;
     let mut at = 0;
+    // Kept: a piece may be of any length, so no `for` counts the steps.
     while at < body.len() {
         let p = piece_at(&table, body, at);
         at = p.end;
-        if p.decides {
-            n += 1;
-        }
+        n += usize::from(p.decides);
     }
     n
 }
 
+// What is measured of a body.
 #[derive(Clone, Copy)]
 pub struct Walked {
     pub cyclomatic: usize,
@@ -198,43 +158,15 @@ pub fn walk(body: &[u8]) -> Walked
     }
 }
 
-// One more where a test passes.
-fn more_one(n: usize, test: bool) -> usize
-    requires { n < 18446744073709551615 }
-    ensures { result ≡ (if test then suc n otherwise n) }
-{
-    if test { n + 1 } else { n }
-}
-
 // The place of a body's closing brace, and the measures from the opening one through it.
 #[derive(Clone, Copy)]
 pub struct Body {
     pub end: usize,
-    pub cyclomatic: usize,
-    pub nesting: usize,
-    pub lines: usize,
+    pub measures: Walked,
 }
 
-// Whether the body that begins at a place is closed.
-#[derive(Clone, Copy)]
-pub enum BodyAt {
-    Closed(Body),
-    Open,
-}
-
-fn closed_at(end: usize, cyclomatic: usize, nesting: usize, lines: usize) -> BodyAt
-    ensures { result ≡ BodyAt.Closed (record { end = end; cyclomatic = cyclomatic; nesting = nesting; lines = lines }) }
-{
-    BodyAt::Closed(Body {
-        end,
-        cyclomatic,
-        nesting,
-        lines,
-    })
-}
-
-// The body whose opening brace stands at a place. `depth` counts the braces that are open inside it. The commonest bytes are tested first.
-pub fn walk_from(s: &[u8], from: usize) -> BodyAt
+// The body whose opening brace stands at a place, if it is closed. `depth` counts the braces that are open inside it. The commonest bytes are tested first.
+pub fn walk_from(s: &[u8], from: usize) -> Option<Body>
     requires { (from < length s.now) × (get_or s.now from 0 ≡ brace_open) }
     ensures { WalkedFrom s.now from result }
 {
@@ -244,6 +176,7 @@ pub fn walk_from(s: &[u8], from: usize) -> BodyAt
     let mut lines: usize = 1;
     let mut n: usize = 1;
     let mut at = from + 1;
+    // Kept: a piece may be of any length, so no `for` counts the steps.
     while at < s.len() {
         let b = s[at];
         if b == b' ' {
@@ -251,25 +184,32 @@ pub fn walk_from(s: &[u8], from: usize) -> BodyAt
         } else if table.is_letter(b) {
             let p = word_at(&table, s, at);
             at = p.end;
-            n = more_one(n, p.decides);
+            n += usize::from(p.decides);
         } else if b == b'\n' {
             at += 1;
             lines += 1;
         } else if b == b'{' {
             at += 1;
             depth += 1;
-            nesting = larger(nesting, depth + 1);
+            nesting = nesting.max(depth + 1);
         } else if b == b'}' {
             if depth == 0 {
-                return closed_at(at, n, nesting, lines);
+                return Some(Body {
+                    end: at,
+                    measures: Walked {
+                        cyclomatic: n,
+                        nesting,
+                        lines,
+                    },
+                });
             }
             at += 1;
             depth -= 1;
         } else {
             let p = mark_at(s, at);
             at = p.end;
-            n = more_one(n, p.decides);
+            n += usize::from(p.decides);
         }
     }
-    BodyAt::Open
+    None
 }

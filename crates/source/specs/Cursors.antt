@@ -12,7 +12,7 @@ use Rattle.source_rules.proofs.PlaceLaws.{block_from, places_at}
 use Rattle.source_rules.specs.TextScan.{TextFun, functions_from, measured, sought}
 use Rattle.source_rules.proofs.TextScanLaws.{Fine}
 use Rattle.source_rules.proofs.TextScanSteps.{byte_before}
-use Rattle.measures.specs.Walks.{MeasuredBody}
+use Rattle.measures.specs.Walks.{Measured}
 use Rattle.measures.specs.declared.Body.{Body}
 use Rattle.passing.specs.declared.Spot.{Spot}
 use Rattle.source.specs.declared.Brackets.{Brackets}
@@ -116,7 +116,7 @@ pub record SpanAt (s : List ℕ) (c d : Cursor) : Type 0 where
 
 -- the body whose opening brace stands at a place: where it ends and its measures, or that it is never closed
 abbrev pub Blocked : List ℕ → ℕ → Option Body → Type 0
-Blocked s at (Some b) = (partner brace_open brace_close 0 (at + 1) (drop (at + 1) s) ≡ some b.end) × MeasuredBody b (part at (b.end + 1) s)
+Blocked s at (Some b) = (partner brace_open brace_close 0 (at + 1) (drop (at + 1) s) ≡ some b.end) × Measured b.measures (part at (b.end + 1) s)
 Blocked s at None = partner brace_open brace_close 0 (at + 1) (drop (at + 1) s) ≡ none
 
 -- the brackets after a name that ends at a place
@@ -127,9 +127,7 @@ pub record Closed (s : List ℕ) (to : ℕ) (b : Brackets) : Type 0 where
   pub body-order : b.body < b.end
   pub inside : b.end < length s
   pub places : (from : ℕ) → function_from from to s ≡ some (places_at from to b.opened b.closed b.body b.end)
-  pub lines-is : b.lines ≡ lines_of (part b.body (b.end + 1) s)
-  pub cyclomatic-is : b.cyclomatic ≡ cyclomatic_of (part b.body (b.end + 1) s)
-  pub nesting-is : b.nesting ≡ nesting_of (part b.body (b.end + 1) s)
+  pub measured : Measured b.measures (part b.body (b.end + 1) s)
 
 pub record Missing (s : List ℕ) (to n : ℕ) : Type 0 where
   pub none_here : (from : ℕ) → function_from from to s ≡ none

@@ -12,7 +12,7 @@ ghost use Rattle.signatures.specs.Signatures.{Lends};
 ghost use Rattle.source_rules.specs.TextScan.{functions};
 ghost use Rattle.source.specs.Cursors.{Barren, Blocked, Closed, FoundAt, Measures, Quieter, Ready, Signed, SpanAt, Stepped, Turned, moved_to, remaining, sought_at};
 
-use measures::{Body, BodyAt};
+use measures::{Body, Walked};
 use passing::Spot;
 use search::Braces;
 use signatures::Signature;
@@ -54,9 +54,7 @@ struct Brackets {
     closed: usize,
     body: usize,
     end: usize,
-    cyclomatic: usize,
-    nesting: usize,
-    lines: usize,
+    measures: Walked,
 }
 
 // Whether every brace that was sought had a partner, and one may stand behind a place.
@@ -73,12 +71,9 @@ fn block_found(braces: &mut Braces, body: usize) -> Option<Body>
     let s = braces.text();
     let end = braces.block_end(body + 1)?;
     let to = end + 1;
-    let m = measures::walk(&s[body..to]);
     Some(Body {
         end,
-        cyclomatic: m.cyclomatic,
-        nesting: m.nesting,
-        lines: m.lines,
+        measures: measures::walk(&s[body..to]),
     })
 }
 
@@ -91,13 +86,10 @@ fn block_at(braces: &mut Braces, body: usize) -> Option<Body>
 {
     if is_closed_so_far(braces, body) {
         let s = braces.text();
-        let walked = measures::walk_from(&s[body..], 0);
-        if let BodyAt::Closed(b) = walked {
+        if let Some(b) = measures::walk_from(&s[body..], 0) {
             return Some(Body {
                 end: body + b.end,
-                cyclomatic: b.cyclomatic,
-                nesting: b.nesting,
-                lines: b.lines,
+                measures: b.measures,
             });
         }
     }
@@ -143,9 +135,7 @@ fn signature_sought(
             closed,
             body,
             end: b.end,
-            cyclomatic: b.cyclomatic,
-            nesting: b.nesting,
-            lines: b.lines,
+            measures: b.measures,
         }),
     }
 }
@@ -181,9 +171,9 @@ fn found_at(s: &[u8], line: usize, from: usize, to: usize, b: Brackets) -> Found
         name_at: from,
         name_len: to - from,
         line,
-        lines: b.lines,
-        cyclomatic: b.cyclomatic,
-        nesting: b.nesting,
+        lines: b.measures.lines,
+        cyclomatic: b.measures.cyclomatic,
+        nesting: b.measures.nesting,
         params,
     }
 }

@@ -9,7 +9,7 @@ returns c =
     let s = a.s.now in
     let l = c.requires.1 in
     record {
-      end_is = word_length s a.at c.word_end-end.result c.word_end-end.ensures.0 l;
-      decides-is = c.decides_word.ensures ∙ word_decides s a.at c.word_end-end.result c.word_end-end.ensures.0 l;
-      inside = c.word_end-end.ensures.1;
+      end_is = word_length s a.at c.word_end-end.result c.word_end-end.ensures.end l;
+      decides-is = c.decides_word.ensures ∙ word_decides s a.at c.word_end-end.result c.word_end-end.ensures.end l;
+      inside = c.word_end-end.ensures.inside;
     }

@@ -10,8 +10,8 @@ use Rattle.source.proofs.block_at.Goals as goal
 rest_of : (s t : List ℕ) (at : ℕ) → s ≡ t → take (length s - at) (drop at s) ≡ drop at t
 rest_of s t at e = rest_part s at ∙ ap (drop at) e
 
-pub walk_from-walked-requires : goal.walk_from-walked-requires
-walk_from-walked-requires c =
+pub walk_from-requires : goal.walk_from-requires
+walk_from-requires c =
     let s = c.args.braces.now in
     let rest = rest_of _ s c.args.body c.text-s.ensures in
     let long : 0 < length (drop c.args.body s) = omega (arith, length-drop c.args.body s, c.requires.inside) in
@@ -20,12 +20,11 @@ walk_from-walked-requires c =
 pub overflow_add-result : goal.overflow_add-result
 overflow_add-result c =
     let s = c.args.braces.now in
-    let r = subst (λ t. WalkedFrom t 0 c.walk_from-walked.result) (rest_of _ s c.args.body c.text-s.ensures) c.walk_from-walked.ensures in
-    omega (arith, ap length c.text-s.ensures, partner-place s (c.args.body + 1) _ brace_open brace_close (part-closed s c.args.body _ r _ c.in-Closed.is))
+    let r = subst (λ t. WalkedFrom t 0 c.walk_from.result) (rest_of _ s c.args.body c.text-s.ensures) c.walk_from.ensures in
+    omega (arith, ap length c.text-s.ensures, partner-place s (c.args.body + 1) _ brace_open brace_close (part-closed s c.args.body _ r _ c.in-Some.is))
 
-pub returns-in-Closed-clause-block : goal.returns-in-Closed-clause-block
-returns-in-Closed-clause-block c =
+pub returns-in-Some-clause-block : goal.returns-in-Some-clause-block
+returns-in-Some-clause-block c =
     let s = c.args.braces.now in
-    let r = subst (λ t. WalkedFrom t 0 c.walk_from-walked.result) (rest_of _ s c.args.body c.text-s.ensures) c.walk_from-walked.ensures in
-    let m = part-measured s c.args.body _ r _ c.in-Closed.is in
-    (part-closed s c.args.body _ r _ c.in-Closed.is, record { cyclomatic-is = m.cyclomatic-is; nesting-is = m.nesting-is; lines-is = m.lines-is })
+    let r = subst (λ t. WalkedFrom t 0 c.walk_from.result) (rest_of _ s c.args.body c.text-s.ensures) c.walk_from.ensures in
+    (part-closed s c.args.body _ r _ c.in-Some.is, part-measured s c.args.body _ r _ c.in-Some.is)

@@ -121,7 +121,5 @@ returns-in-Some-block-clause-signed c =
       body-order = omega (arith, i₄);
       inside = i₄.1;
       places = whole s to opened e₁ p.closed both.0 p.body both.1 end block.0;
-      lines-is = block.1.lines-is;
-      cyclomatic-is = block.1.cyclomatic-is;
-      nesting-is = block.1.nesting-is;
+      measured = block.1;
     }
