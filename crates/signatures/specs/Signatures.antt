@@ -26,6 +26,9 @@ sought-past s at depth d e =
 abbrev pub nothing_counted : Counts
 nothing_counted = record { angle = 0; opened = 0; closed = 0 }
 
+pub nothing_same : (n : Counts) → (n.angle ≡ 0) × ((n.opened ≡ 0) × (n.closed ≡ 0)) → n ≡ nothing_counted
+nothing_same n e = λ i. record { angle = e.0 i; opened = e.1.0 i; closed = e.1.1 i }
+
 -- the search for the body behind a list begins so
 pub nothing-begins : (s : List ℕ) (closed : ℕ) (n : Counts) → n ≡ nothing_counted → Counted n (closed + 1) × (body_behind s closed ≡ body_from s (closed + 1) n)
 nothing-begins s closed n e = (

@@ -10,7 +10,7 @@ ghost use Rattle.flat.specs.Body.{Counted, body_from};
 ghost use Rattle.search.specs.Place.{place_of};
 ghost use Rattle.chunks.specs.Table.{Summed};
 ghost use Rattle.parts.specs.Told.{Lent, body_behind, sought_from};
-ghost use Rattle.signatures.specs.Signatures.{Begins, Follows, Lends, body_of, nothing_counted};
+ghost use Rattle.signatures.specs.Signatures.{Begins, Follows, Lends, body_of};
 
 use flat::{Counts, Reached};
 use search::Met;
@@ -37,6 +37,7 @@ fn far_end(s: &[u8], t: &[u16; 36865], from: usize, depth: usize) -> Option<usiz
 {
     let mut at = from;
     let mut inner = depth;
+    // Kept: a step is a chunk, or what is left of one, so no `for` counts the steps.
     while at < s.len() {
         let past = chunks::round_past(s, t, at, inner);
         match past {
@@ -85,23 +86,12 @@ fn far_body(s: &[u8], t: &[u16; 36865], closed: usize, from: usize, n: Counts) -
     }
 }
 
-// At the start of a search for a body nothing is counted.
-fn nothing() -> Counts
-    ensures { result ≡ nothing_counted }
-{
-    Counts {
-        angle: 0,
-        opened: 0,
-        closed: 0,
-    }
-}
-
 // The body behind a list that ends at `closed`, sought to the end of the text.
 fn body_behind(s: &[u8], t: &[u16; 36865], closed: usize) -> Option<Signature>
     requires { (closed < length s.now) × Summed s.now t.now }
     ensures { Follows s.now closed result }
 {
-    far_body(s, t, closed, closed + 1, nothing())
+    far_body(s, t, closed, closed + 1, Counts::default())
 }
 
 // What follows a `(` before `from`, sought to the end of the text from a place at which so many are open inside it.
@@ -112,11 +102,8 @@ fn far_list(s: &[u8], t: &[u16; 36865], from: usize, at: usize, depth: usize) ->
         × Summed s.now t.now }
     ensures { Begins s.now from result }
 {
-    let end = far_end(s, t, at, depth);
-    match end {
-        Some(closed) => body_behind(s, t, closed),
-        None => None,
-    }
+    let closed = far_end(s, t, at, depth)?;
+    body_behind(s, t, closed)
 }
 
 // What follows a `(` before `from`. Its list is not closed up to the place `near`, at which so many are open inside it.
@@ -182,13 +169,11 @@ fn noted_body(
     if p.first == parts::NEVER {
         return None;
     }
-    if 0 < p.first {
-        if 0 < p.second {
-            return Some(Signature {
-                closed,
-                body: p.second as usize - 1,
-            });
-        }
+    if 0 < p.first && 0 < p.second {
+        return Some(Signature {
+            closed,
+            body: p.second as usize - 1,
+        });
     }
     far_body(s, t, closed, near, n)
 }
@@ -288,7 +273,7 @@ fn near_body(
 {
     let behind = closed + 1;
     let mark = memo::mark_after(f, behind, s.len());
-    let met = flat::body_before(s, behind, mark, nothing());
+    let met = flat::body_before(s, behind, mark, Counts::default());
     match met {
         Reached::Brace(body) => Some(Signature { closed, body }),
         Reached::Ended(_) => None,
@@ -332,10 +317,7 @@ pub fn brackets_after(
         windows::mark_used(m);
         return None;
     }
-    if p.first == 0 {
-        return sought_after(s, from, m, t, f);
-    }
-    if p.second == 0 {
+    if p.first == 0 || p.second == 0 {
         return sought_after(s, from, m, t, f);
     }
     windows::mark_used(m);

@@ -12,11 +12,11 @@ use Rattle.signatures.proofs.far_list.Goals as goal
 pub body_behind-requires : goal.body_behind-requires
 body_behind-requires c =
     let a = c.args in
-    let there : sought_from a.s.now a.from 0 ≡ some c.in-Some.closed = c.requires.2 ∙ sym c.far_end-end.ensures ∙ ap place_of c.in-Some.is in
+    let there : sought_from a.s.now a.from 0 ≡ some c.in_ok-closed.closed = c.requires.2 ∙ sym c.far_end.ensures ∙ ap place_of (c.in_ok-closed.was) in
     (omega (arith, partner-place a.s.now a.from _ round_open round_close there), c.requires.3)
 
-pub returns-in-Some : goal.returns-in-Some
-returns-in-Some c =
+pub returns : goal.returns
+returns c =
     let a = c.args in
-    let there : sought_from a.s.now a.from 0 ≡ some c.in-Some.closed = c.requires.2 ∙ sym c.far_end-end.ensures ∙ ap place_of c.in-Some.is in
+    let there : sought_from a.s.now a.from 0 ≡ some c.in_ok-closed.closed = c.requires.2 ∙ sym c.far_end.ensures ∙ ap place_of (c.in_ok-closed.was) in
     follows_begins a.s.now a.from _ c.body_behind.result there c.body_behind.ensures

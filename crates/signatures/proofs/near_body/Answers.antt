@@ -6,7 +6,7 @@ use Rattle.text_rules.specs.Classes.{round_close, round_open}
 use Rattle.source_rules.proofs.PlaceLaws.{partner-place}
 use Rattle.flat.specs.Body.{Reaches}
 use Rattle.parts.specs.Told.{no-brace}
-use Rattle.signatures.specs.Signatures.{nothing-begins}
+use Rattle.signatures.specs.Signatures.{nothing-begins, nothing_same}
 use Rattle.signatures.proofs.near_body.Goals as goal
 
 pub overflow_add-behind : goal.overflow_add-behind
@@ -23,12 +23,12 @@ pub marked_body-requires : goal.marked_body-requires
 marked_body-requires c =
     let a = c.args in
     let i = partner-place a.s.now a.from a.closed round_open round_close c.requires.0 in
-    let e = subst (Reaches a.s.now (a.closed + 1) c.mark_after-mark.result c.nothing.result) c.in-Further.is c.body_before-met.ensures in
-    let begins = (nothing-begins a.s.now a.closed _ c.nothing.ensures).1 in
+    let e = subst (Reaches a.s.now (a.closed + 1) c.mark_after-mark.result c.default.result) c.in-Further.is c.body_before-met.ensures in
+    let begins = (nothing-begins a.s.now a.closed _ (nothing_same c.default.result c.default.ensures)).1 in
     (omega (arith, c.mark_after-mark.ensures, i), omega (arith, c.mark_after-mark.ensures), e.1, c.requires.0, begins ∙ e.0, c.requires.1)
 
 pub returns-in-Ended : goal.returns-in-Ended
 returns-in-Ended c =
     let a = c.args in
-    let e = subst (Reaches a.s.now (a.closed + 1) c.mark_after-mark.result c.nothing.result) c.in-Ended.is c.body_before-met.ensures in
-    (no-brace a.closed c.requires.0 ((nothing-begins a.s.now a.closed _ c.nothing.ensures).1 ∙ e), c.requires.1)
+    let e = subst (Reaches a.s.now (a.closed + 1) c.mark_after-mark.result c.default.result) c.in-Ended.is c.body_before-met.ensures in
+    (no-brace a.closed c.requires.0 ((nothing-begins a.s.now a.closed _ (nothing_same c.default.result c.default.ensures)).1 ∙ e), c.requires.1)
