@@ -8,7 +8,7 @@ use native.Mathlib.Omega.{arith}
 use borrow.Author.Tests.{eq-eqb, ne_eqb, lt-ltb, le-ltb}
 use lib.ListN.{length, get_or, take, drop, set, take-append-drop, drop_of_length-le}
 use lib.Seq.{take-suc-set, drop-set-lt, drop-drop}
-use Rattle.answers.specs.declared.Answer.{Answer}
+use Rattle.text_rules.specs.Answer.{Answer}
 use Rattle.text_rules.specs.Bytes.{◌or_else◌}
 use Rattle.text_rules.specs.Classes.{lf, space}
 use Rattle.text_rules.proofs.ScanLaws.{or_else-same, or_else-some, split}

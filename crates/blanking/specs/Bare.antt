@@ -1,6 +1,8 @@
 -- What the functions of this crate ensure, in the words of the rules.
-use Rattle.std.specs.Prelude.{◌≡◌, ◌≢◌, List, ◌∷◌, ◌++◌, ℕ, ◌-◌, ◌≤◌, ◌<◌, length, get_or, take, drop}
-use Rattle.answers.specs.declared.Answer.{Answer}
+use Rattle.std.specs.Prelude.{◌≡◌, ◌≢◌, Result, List, ◌∷◌, ◌++◌, ℕ, ◌-◌, ◌≤◌, ◌<◌, length, get_or, take, drop}
+use Rattle.answers.specs.Numbers.{answer_by}
+use Rattle.answers.specs.declared.Refusal.{Refusal}
+use Rattle.text_rules.specs.Answer.{Answer}
 use Rattle.text_rules.specs.Classes.{apostrophe, hash, quote, slash}
 use Rattle.source_rules.specs.Blank.{blank_from, token_length}
 use Rattle.source_rules.specs.BlankCall.{blank_call}
@@ -23,6 +25,10 @@ AllBare text from to = (i : ℕ) → from ≤ i → i < to → Bare (get_or text
 -- no token begins from one place to another
 abbrev pub NoToken : (text : List ℕ) (from to : ℕ) → Type 0
 NoToken text from to = (i : ℕ) → from ≤ i → i < to → token_length (get_or (0 ∷ text) i 0) (drop i text) ≡ 0
+
+-- what blank hands back, as the record of the definitions: it counts no functions
+abbrev pub blank_answer : Result ℕ Refusal → Answer
+blank_answer = answer_by (λ n. n) (λ _. 0)
 
 -- the call blank: its answer, and what it leaves in the output
 pub record Answered (text output : List ℕ) (r : Answer) (left : List ℕ) : Type 0 where

@@ -6,9 +6,9 @@
 ghost use Rattle.std.specs.Prelude.{◌≡◌, ◌++◌, ◌+◌, ◌≤◌, ◌<◌, length, take, drop};
 ghost use Rattle.text_rules.specs.Search.{part};
 ghost use Rattle.source_rules.specs.Blank.{blanked, put};
-ghost use Rattle.blanking.specs.Bare.{AllBare, Answered, NoToken, finished};
+ghost use Rattle.blanking.specs.Bare.{AllBare, Answered, NoToken, blank_answer, finished};
 
-use answers::Answer;
+use answers::Refusal;
 use tokens::{APOSTROPHE, HASH, LF, QUOTE, SLASH};
 
 const SPACE: u8 = b' ';
@@ -131,23 +131,18 @@ fn blank_all(text: &[u8], output: &mut [u8])
     }
 }
 
-// 0: the output begins with the blanked text. 1: the text is too long. 5: the output is shorter than the text. 1 and 5 leave the output as it is.
-pub fn blank(text: &[u8], output: &mut [u8]) -> Answer
-    ensures { Answered text.now output.old result output.new }
+// Blanks a text into the first bytes of the output, and answers how many these are. The refusals 1 and 5 leave the output as it is.
+pub fn blank(text: &[u8], output: &mut [u8]) -> Result<u32, Refusal>
+    ensures { Answered text.now output.old (blank_answer result) output.new }
 {
-    let n = text.len();
-    if MAX_TEXT < n {
-        return answers::refusal(1);
+    if MAX_TEXT < text.len() {
+        return Err(Refusal::Length);
     }
-    if output.len() < n {
-        return answers::refusal(5);
+    if output.len() < text.len() {
+        return Err(Refusal::Work);
     }
     blank_all(text, output);
-    Answer {
-        number: 0,
-        written: n as u32,
-        functions: 0,
-    }
+    Ok(text.len() as u32)
 }
 
 // Blanks the text from `a` to `e` of a tree into the same place of a work buffer.

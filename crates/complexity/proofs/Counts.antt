@@ -1,44 +1,48 @@
--- Numbers put one after another at the start of the lent bytes are the counts.
-use Prim.Native.Nat.{ℕ, ◌+◌, ◌≤◌}
-use mathlib.Core.Path.{◌≡◌, ap, ◌∙◌}
-use mathlib.Core.List.{List, [], ◌∷◌, ◌++◌, map}
+-- Numbers of four bytes each, put one after another at the start of the lent bytes.
+use Prim.Native.Nat.{ℕ, zero, suc, ◌+◌, ◌*◌, ◌≤◌, ◌<◌}
+use mathlib.Core.Path.{◌≡◌, refl, ap, sym, ◌∙◌}
+use mathlib.Core.List.{List, [], ◌∷◌, ◌++◌, map, append_assoc, append-nil}
 use native.Mathlib.Omega.{arith}
-use lib.ListN.{length, drop}
+use lib.ListN.{length, length-append, get_or, drop, take}
 use Rattle.text_rules.specs.Bytes.{joined, put_at}
 use Rattle.text_rules.specs.U32.{u32_bytes}
 use Rattle.text_rules.proofs.WriterLaws.{put_then}
 
-at-start : (xs s : List ℕ) → put_at 0 xs s ≡ xs ++ drop (length xs) s
-at-start xs s = let e : 0 + length xs ≡ length xs = omega arith in ap (λ n. xs ++ drop n s) e
+-- the bytes of the first numbers
+abbrev pub first_bytes : List ℕ → ℕ → List ℕ
+first_bytes values i = joined (map u32_bytes (take i values))
 
-module _ (a : ℕ) (s s₁ : List ℕ) (e₁ : s₁ ≡ put_at 0 (u32_bytes a) s) where
-  pub one-put : s₁ ≡ joined (map u32_bytes (a ∷ [])) ++ drop 4 s
-  unfolding u32_bytes
-  one-put = e₁ ∙ at-start (u32_bytes a) s
+one_more : (values : List ℕ) (i : ℕ) → i < length values → first_bytes values (suc i) ≡ first_bytes values i ++ u32_bytes (get_or values i 0)
+one_more [] i h = absurd (omega arith)
+one_more (v ∷ values) zero h = append-nil (u32_bytes v)
+one_more (v ∷ values) (suc i) h =
+    ap (λ r. u32_bytes v ++ r) (one_more values i (omega arith)) ∙ sym (append_assoc (u32_bytes v) (first_bytes values i) (u32_bytes (get_or values i 0)))
 
-  module _ (b : ℕ) (s₂ : List ℕ) (e₂ : s₂ ≡ put_at 4 (u32_bytes b) s₁) where
-    two : 8 ≤ length s → s₂ ≡ put_at 0 (u32_bytes a ++ u32_bytes b) s
-    unfolding u32_bytes
-    two h = put_then 0 4 (u32_bytes a) (u32_bytes b) s s₁ s₂ (omega arith) (omega arith) e₁ e₂
+pub first-length : (values : List ℕ) (i : ℕ) → i ≤ length values → length (first_bytes values i) ≡ 4 * i
+unfolding u32_bytes
+first-length values zero h = refl
+first-length [] (suc i) h = absurd (omega arith)
+first-length (v ∷ values) (suc i) h = omega (arith, length-append (u32_bytes v) (first_bytes values i), first-length values i (omega arith))
 
-    pub two-put : 8 ≤ length s → s₂ ≡ joined (map u32_bytes (a ∷ b ∷ [])) ++ drop 8 s
-    unfolding u32_bytes
-    two-put h = two h ∙ at-start (u32_bytes a ++ u32_bytes b) s
+-- one number more is put
+pub put_more : (values s t u : List ℕ) (i : ℕ) → i < length values → 4 * length values ≤ length s → t ≡ put_at 0 (first_bytes values i) s
+    → u ≡ put_at (4 * i) (u32_bytes (get_or values i 0)) t → u ≡ put_at 0 (first_bytes values (i + 1)) s
+unfolding u32_bytes
+put_more values s t u i h room e f =
+    let size = first-length values i (omega arith) in
+    let all = length-append (first_bytes values i) (u32_bytes (get_or values i 0)) in
+    let next : i + 1 ≡ suc i = omega arith in
+    put_then 0 (4 * i) (first_bytes values i) (u32_bytes (get_or values i 0)) s t u (omega (arith, size, all)) (omega (arith, size)) e f
+    ∙ ap (λ bs. put_at 0 bs s) (sym (ap (first_bytes values) next ∙ one_more values i h))
 
-    module _ (c : ℕ) (s₃ : List ℕ) (e₃ : s₃ ≡ put_at 8 (u32_bytes c) s₂) where
-      three : 12 ≤ length s → s₃ ≡ put_at 0 ((u32_bytes a ++ u32_bytes b) ++ u32_bytes c) s
-      unfolding u32_bytes
-      three h = put_then 0 8 (u32_bytes a ++ u32_bytes b) (u32_bytes c) s s₂ s₃ (omega arith) (omega arith) (two (omega arith)) e₃
-
-      pub three-put : 12 ≤ length s → s₃ ≡ joined (map u32_bytes (a ∷ b ∷ c ∷ [])) ++ drop 12 s
-      unfolding u32_bytes
-      three-put h = three h ∙ at-start ((u32_bytes a ++ u32_bytes b) ++ u32_bytes c) s
-
-      module _ (d : ℕ) (s₄ : List ℕ) (e₄ : s₄ ≡ put_at 12 (u32_bytes d) s₃) where
-        four : 16 ≤ length s → s₄ ≡ put_at 0 (((u32_bytes a ++ u32_bytes b) ++ u32_bytes c) ++ u32_bytes d) s
-        unfolding u32_bytes
-        four h = put_then 0 12 ((u32_bytes a ++ u32_bytes b) ++ u32_bytes c) (u32_bytes d) s s₃ s₄ (omega arith) (omega arith) (three (omega arith)) e₄
-
-        pub four-put : 16 ≤ length s → s₄ ≡ joined (map u32_bytes (a ∷ b ∷ c ∷ d ∷ [])) ++ drop 16 s
-        unfolding u32_bytes
-        four-put h = four h ∙ at-start (((u32_bytes a ++ u32_bytes b) ++ u32_bytes c) ++ u32_bytes d) s
+-- all numbers are put
+pub put_all : (values s t : List ℕ) (n : ℕ) → length values ≡ n → t ≡ put_at 0 (first_bytes values n) s → t ≡ joined (map u32_bytes values) ++ drop (4 * n) s
+put_all values s t n h e =
+    let size : 0 + length (first_bytes values n) ≡ 4 * n = omega (arith, first-length values n (omega arith)) in
+    e ∙ ap (λ k. first_bytes values n ++ drop k s) size ∙ ap (λ vs. joined (map u32_bytes vs) ++ drop (4 * n) s) (take-all values n (omega arith))
+  where
+    take-all : (vs : List ℕ) (n : ℕ) → length vs ≤ n → take n vs ≡ vs
+    take-all [] zero h = refl
+    take-all [] (suc n) h = refl
+    take-all (v ∷ vs) zero h = absurd (omega arith)
+    take-all (v ∷ vs) (suc n) h = ap (λ r. v ∷ r) (take-all vs n (omega arith))

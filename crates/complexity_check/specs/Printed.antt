@@ -7,7 +7,7 @@ use Rattle.text_rules.specs.Bytes.{◌or_else◌, ◌when◌}
 use Rattle.text_rules.specs.Decimal.{decimal}
 use Rattle.text_rules.specs.Sizes.{max_baseline}
 use Rattle.gate_rules.specs.Baseline.{Entry, entries}
-use Rattle.gate_rules.specs.Calls.{Checked, check_answer, check_call, check_number, output_after, room}
+use Rattle.gate_rules.specs.Calls.{CheckAnswer, Checked, check_answer, check_call, check_number, output_after, room}
 use Rattle.gate_rules.specs.Check.{listing}
 use Rattle.gate_rules.specs.Functions.{Fun, Limits, gate_limits}
 use Rattle.gate_rules.specs.Gate.{gate}
@@ -15,7 +15,6 @@ use Rattle.gate_rules.specs.Programs.{check_program, lent, printed, program_byte
 use Rattle.gate_rules.specs.Scan.{functions_of}
 use Rattle.gate_rules.proofs.TableLaws.{checked_number}
 use Rattle.gate_rules.specs.Tree.{tree_refusal}
-use Rattle.gate_check.specs.declared.CheckAnswer.{CheckAnswer}
 use Rattle.gate_check.specs.Checks.{Checks}
 use Rattle.programs.specs.Lines.{Starts, refused-line}
 

@@ -3,36 +3,39 @@
 #![tactic(auto)]
 
 ghost use Rattle.std.specs.Prelude.{◌≡◌};
+ghost use Rattle.answers.specs.Numbers.{number_of, refusal_number};
 ghost use Rattle.programs.specs.Lines.{Starts};
 ghost use Rattle.gate_rules.specs.Programs.{check_program};
 ghost use Rattle.gate_rules.specs.Programs.{lent as zeros};
 ghost use Rattle.complexity_check.specs.Printed.{length_refusal, long_baseline};
 
+use answers::Refusal;
+
 // The bytes that a file may have.
 const MOST: usize = 65536;
 
-// The number where the baseline is too long: the tree's own refusals come first.
-fn long_baseline(tree: &[u8]) -> u32
-    ensures { result ≡ long_baseline tree.now }
+// Why the check is refused where the baseline is too long: the tree's own refusals come first.
+fn long_baseline(tree: &[u8]) -> Refusal
+    ensures { number_of result ≡ long_baseline tree.now }
 {
-    let refused = tree::tree_refusal(tree);
-    if refused != 0 {
-        return refused;
+    match tree::accept(tree) {
+        Ok(()) => Refusal::Baseline,
+        Err(refusal) => refusal,
     }
-    7
 }
 
-// The number where a file is too long, or else 0.
-fn length_refusal(tree: &[u8], baseline: &[u8]) -> u32
-    ensures { result ≡ length_refusal tree.now baseline.now }
+// Whether both files are short enough.
+#[tactic(auto, unfolding(crate::specs::Printed::length_refusal))]
+fn short_enough(tree: &[u8], baseline: &[u8]) -> Result<(), Refusal>
+    ensures { refusal_number result ≡ length_refusal tree.now baseline.now }
 {
     if MOST < tree.len() {
-        return 1;
+        return Err(Refusal::Length);
     }
     if MOST < baseline.len() {
-        return long_baseline(tree);
+        return Err(long_baseline(tree));
     }
-    0
+    Ok(())
 }
 
 // What is printed, at the start of the output.
@@ -46,15 +49,13 @@ fn put_answer(
     requires { (work.old ≡ zeros) × (lent.old ≡ zeros) × (output.old ≡ zeros) }
     ensures { Starts result output.new (check_program tree.now baseline.now) }
 {
-    let long = length_refusal(tree, baseline);
-    if long != 0 {
-        return programs::put_refusal(output, long);
+    if let Err(refusal) = short_enough(tree, baseline) {
+        return programs::put_refusal(output, u32::from(refusal));
     }
-    let r = gate_check::check(tree, baseline, work, lent, output);
-    if r.number != 0 {
-        return programs::put_refusal(output, r.number);
+    match gate_check::check(tree, baseline, work, lent, output) {
+        Ok(counts) => counts.written as usize,
+        Err(refusal) => programs::put_refusal(output, u32::from(refusal)),
     }
-    r.written as usize
 }
 
 // Prints what check says.

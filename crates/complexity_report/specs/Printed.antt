@@ -3,7 +3,7 @@ use Rattle.std.specs.Prelude.{ℕ, zero, suc, ◌≤◌, ◌<◌, ◌≡◌, Lis
 use Rattle.std.proofs.Math.Path.{ap, ap₂, sym}
 use Rattle.std.proofs.Common.{◌∙◌, arith, length-append, length-take-le, le-ltb}
 use Rattle.std.proofs.Math.ListN.{length, take}
-use Rattle.text_rules.specs.Answer.{answer_at}
+use Rattle.text_rules.specs.Answer.{Answer, answer_at}
 use Rattle.text_rules.specs.Decimal.{decimal, digits}
 use Rattle.gate_rules.specs.Calls.{output_after}
 use Rattle.gate_rules.specs.Functions.{gate_limits}
@@ -13,7 +13,6 @@ use Rattle.gate_rules.specs.Programs.{lent, printed, program_bytes, report_progr
 use Rattle.gate_rules.specs.Report.{empty_sums}
 use Rattle.gate_rules.specs.ReportCall.{Reported, report_call, report_number, report_of}
 use Rattle.gate_rules.specs.Scan.{functions_of}
-use Rattle.answers.specs.declared.Answer.{Answer}
 use Rattle.gate_report.specs.Reports.{ReportsAlone}
 use Rattle.programs.specs.Lines.{Starts, refused-line}
 

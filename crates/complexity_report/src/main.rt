@@ -7,6 +7,8 @@ ghost use Rattle.gate_rules.specs.Programs.{report_program};
 ghost use Rattle.gate_rules.specs.Programs.{lent as zeros};
 ghost use Rattle.programs.specs.Lines.{Starts};
 
+use answers::Refusal;
+
 // The bytes that a tree may have.
 const MOST: usize = 65536;
 
@@ -17,13 +19,12 @@ fn put_answer(tree: &[u8], work: &mut [u8], lent: &mut [u8], output: &mut [u8]) 
     ensures { Starts result output.new (report_program tree.now) }
 {
     if MOST < tree.len() {
-        return programs::put_refusal(output, 1);
+        return programs::put_refusal(output, u32::from(Refusal::Length));
     }
-    let r = gate_report::report_alone(tree, work, lent, output);
-    if r.number != 0 {
-        return programs::put_refusal(output, r.number);
+    match gate_report::report_alone(tree, work, lent, output) {
+        Ok(counts) => counts.written as usize,
+        Err(refusal) => programs::put_refusal(output, u32::from(refusal)),
     }
-    r.written as usize
 }
 
 // Prints the report.

@@ -4,21 +4,22 @@
 
 ghost use Rattle.std.specs.Prelude.{◌≤◌, ◌≡◌, length, take};
 ghost use Rattle.io.specs.Counts.{IsPrefixLen};
-ghost use Rattle.gate_rules.specs.Programs.{update_file, update_program, written_at};
+ghost use Rattle.gate_rules.specs.Programs.{update_file, update_program};
 ghost use Rattle.gate_rules.specs.Programs.{lent as zeros};
+ghost use Rattle.answers.specs.Numbers.{number_of};
 ghost use Rattle.programs.specs.Lines.{Starts};
-ghost use Rattle.complexity_update.specs.Answered.{closing, refusal_line};
+ghost use Rattle.complexity_update.specs.Answered.{FileLies, closing, file_of, refusal_line};
 
+use answers::Refusal;
 use std::rt::Files;
 
 // The bytes that a tree may have.
 const MOST: usize = 65536;
 
-// The number, and the bytes of the file and of the line that is printed. A refusal has no file.
-#[derive(Drop)]
+// The bytes of the file, if one is written, and of the line that is printed.
+#[derive(Clone, Copy)]
 struct Outcome {
-    number: u32,
-    file: usize,
+    file: Option<usize>,
     line: usize,
 }
 
@@ -33,14 +34,14 @@ fn put_closing(line: &mut [u8], recorded: u32) -> usize
 }
 
 // A refusal, with its line.
-fn refusal(line: &mut [u8], number: u32) -> Outcome
+fn refused(line: &mut [u8], refusal: Refusal) -> Outcome
     requires { 61 ≤ length line.old }
-    ensures { (result.number ≡ number) × (result.file ≡ 0) × Starts result.line line.new (refusal_line number) }
+    ensures file { result.file ≡ None }
+    ensures line { Starts result.line line.new (refusal_line (number_of refusal)) }
 {
     Outcome {
-        number,
-        file: 0,
-        line: programs::put_refusal(line, number),
+        file: None,
+        line: programs::put_refusal(line, u32::from(refusal)),
     }
 }
 
@@ -53,21 +54,19 @@ fn put_answer(
     line: &mut [u8],
 ) -> Outcome
     requires { (work.old ≡ zeros) × (lent.old ≡ zeros) × (output.old ≡ zeros) × (61 ≤ length line.old) }
-    ensures { IsPrefixLen result.file output.new
-        × (written_at result.number (take result.file output.new) ≡ update_file tree.now)
+    ensures { FileLies result.file output.new
+        × (file_of result.file output.new ≡ update_file tree.now)
         × Starts result.line line.new (update_program tree.now) }
 {
     if MOST < tree.len() {
-        return refusal(line, 1);
+        return refused(line, Refusal::Length);
     }
-    let r = gate_update::update(tree, work, lent, output);
-    if r.number != 0 {
-        return refusal(line, r.number);
-    }
-    Outcome {
-        number: 0,
-        file: r.written as usize,
-        line: put_closing(line, r.recorded),
+    match gate_update::update(tree, work, lent, output) {
+        Ok(counts) => Outcome {
+            file: Some(counts.written as usize),
+            line: put_closing(line, counts.recorded),
+        },
+        Err(refusal) => refused(line, refusal),
     }
 }
 
@@ -78,9 +77,8 @@ fn answer(rt: &(impl Files + Print + Eprint), tree: &[u8]) {
     let mut output = [0u8; 65536];
     let mut line = [0u8; 61];
     let r = put_answer(tree, &mut work, &mut lent, &mut output, &mut line);
-    let file = r.file;
     let end = r.line;
-    if r.number == 0 {
+    if let Some(file) = r.file {
         if !programs::write_baseline(rt, &output[..file]) {
             return;
         }

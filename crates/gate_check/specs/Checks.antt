@@ -1,29 +1,35 @@
 -- What check answers and leaves, one named equation for each of the answer's numbers and for each lent buffer. A check is a scan, and then a listing,
 -- with a baseline that is too long refused between the refusals of the scan.
 use Prim.Native.Nat.{ℕ, zero, suc, ◌+◌, ◌≤◌, ◌<◌}
-use Rattle.std.specs.Prelude.{◌≡◌, Bool, List, ◌++◌, length, drop}
+use Rattle.std.specs.Prelude.{◌≡◌, Bool, Result, Ok, Err, List, ◌++◌, length, drop}
 use Rattle.std.proofs.Math.Path.{refl, ap, subst}
 use Rattle.std.proofs.Common.{sym, ◌∙◌, arith}
 use Rattle.std.proofs.Math.Bool.{true, false}
 use Rattle.std.proofs.Math.Dec.{ltb}
 use borrow.Author.Tests.{le-ltb, lt-ltb, ltb-false, ne_eqb}
-use Rattle.text_rules.specs.Answer.{answer_at}
+use Rattle.text_rules.specs.Answer.{Answer, answer_at}
 use Rattle.text_rules.specs.Bytes.{◌or_else◌, ◌when◌, overwritten, put_at}
 use Rattle.text_rules.specs.BytesLaws.{or_else-first, or_else-rest, when-fails}
 use Rattle.text_rules.specs.Sizes.{max_baseline}
 use Rattle.gate_rules.specs.Baseline.{Entry, entries}
-use Rattle.gate_rules.specs.Calls.{Checked, check_answer, check_call, check_number, output_after, records_after, room, scan_call, scan_number, work_after}
+use Rattle.gate_rules.specs.Calls.{CheckAnswer, Checked, check_answer, check_call, check_number, output_after, records_after, room, scan_call, scan_number, work_after}
 use Rattle.gate_rules.specs.Check.{listing, regressions, stale}
 use Rattle.gate_rules.specs.Functions.{Fun, Limits}
 use Rattle.gate_rules.specs.Gate.{gate}
 use Rattle.gate_rules.specs.Scan.{functions_of}
 use Rattle.gate_rules.proofs.TableLaws.{answer-number}
 use Rattle.gate_rules.specs.Tree.{tree_refusal}
-use Rattle.answers.specs.declared.Answer.{Answer}
+use Rattle.answers.specs.Numbers.{number_of}
+use Rattle.answers.specs.declared.Refusal.{Refusal}
 use Rattle.functions.specs.Shown.{Stand}
 use Rattle.functions.specs.Stands.{stands}
 use Rattle.gate_scan.specs.Scans.{Scans}
-use Rattle.gate_check.specs.declared.CheckAnswer.{CheckAnswer}
+use Rattle.gate_check.specs.declared.CheckCounts.{CheckCounts}
+
+-- what check hands back, as the record of the definitions
+abbrev pub check_told : Result CheckCounts Refusal → CheckAnswer
+check_told (Ok c) = record { number = 0; written = c.written; functions = c.functions; regressed = c.regressed; stale = c.stale }
+check_told (Err e) = record { number = number_of e; written = 0; functions = 0; regressed = 0; stale = 0 }
 
 pub record Checks (r : CheckAnswer) (c : Checked) (work records output : List ℕ) : Type 0 where
   pub number_is : r.number ≡ c.answer.number
@@ -42,6 +48,10 @@ pub record Refuses (r : CheckAnswer) (number : ℕ) : Type 0 where
   pub functions-is : r.functions ≡ 0
   pub regressed-is : r.regressed ≡ 0
   pub stale-is : r.stale ≡ 0
+
+-- an error's counts are 0
+pub refuses : (e : Refusal) → Refuses (check_told (Err e)) (number_of e)
+refuses e = record { number_is = refl; written_is = refl; functions-is = refl; regressed-is = refl; stale-is = refl }
 
 -- the number of a check of which only the listing is left: 9 where the output is too short for it
 abbrev pub last_number : Limits → List Entry → List Fun → (output : List ℕ) → ℕ

@@ -11,36 +11,24 @@ ghost use Rattle.gate_rules.specs.Functions.{gate_limits};
 ghost use Rattle.gate_rules.specs.Gate.{gate};
 ghost use Rattle.gate_rules.specs.Scan.{functions_of};
 ghost use Rattle.gate_rules.specs.Tree.{tree_refusal};
+ghost use Rattle.answers.specs.Numbers.{number_of};
 ghost use Rattle.functions.specs.Shown.{limits_of};
 ghost use Rattle.in_order.specs.StaleKeys.{AllStand};
-ghost use Rattle.gate_check.specs.Checks.{Checks, Refuses, Tells};
+ghost use Rattle.gate_check.specs.Checks.{Checks, Tells, check_told};
 
+use answers::Refusal;
 use functions::Limits;
 
 // The largest baseline, in bytes.
 const MAX_BASELINE: usize = 33554432;
 
-// The number is 0 on success, and else says what was refused.
+// What check answers: the bytes written, how many functions the tree has, how many regression lines there are, and how many entries are stale.
 #[derive(Clone, Copy)]
-pub struct CheckAnswer {
-    pub number: u32,
+pub struct CheckCounts {
     pub written: u32,
     pub functions: u32,
     pub regressed: u32,
     pub stale: u32,
-}
-
-// A refusal's counts are 0.
-fn refusal(number: u32) -> CheckAnswer
-    ensures { Refuses result number }
-{
-    CheckAnswer {
-        number,
-        written: 0,
-        functions: 0,
-        regressed: 0,
-        stale: 0,
-    }
 }
 
 // What check says of a scanned tree: 9, or the listing and its counts.
@@ -51,9 +39,9 @@ fn told(
     n: usize,
     lines: &[u8],
     output: &mut [u8],
-) -> CheckAnswer
+) -> Result<CheckCounts, Refusal>
     requires { AllStand tree.now lent.now n × (is_utf8 lines.now ≡ true) × (length lines.now ≤ 33554432) }
-    ensures { Tells result (limits_of limits) (entries_of_lines lines.now) (functions_of gate tree.now) output.old output.new }
+    ensures { Tells (check_told result) (limits_of limits) (entries_of_lines lines.now) (functions_of gate tree.now) output.old output.new }
 {
     let gone = stale::measure(tree, lent, n, lines);
     let ordered = gone.ordered;
@@ -65,7 +53,7 @@ fn told(
     let bytes = check_texts::stale_length(gone.count, gone.bytes)
         + check_texts::verdict_length(worse.count, worse.bytes);
     if output.len() < bytes {
-        return refusal(9);
+        return Err(Refusal::Output);
     }
     let next = check_texts::put_stale(
         tree, lent, n, lines, ordered, gone.whole, gone.count, output, 0,
@@ -82,13 +70,12 @@ fn told(
         output,
         next,
     );
-    CheckAnswer {
-        number: 0,
+    Ok(CheckCounts {
         written: end as u32,
         functions: n as u32,
         regressed: worse.count as u32,
         stale: gone.count as u32,
-    }
+    })
 }
 
 // How much of the baseline is read: one that is not UTF-8 has no entries.
@@ -103,18 +90,16 @@ fn read_length(baseline: &[u8]) -> usize
     0
 }
 
-// The number of a call whose baseline is too long: 1 to 5 come before 7.
-fn long_number(tree: &[u8], room: usize) -> u32
-    ensures { (result ≡ tree_refusal tree.now or_else 5 when ltb room (length tree.now) or_else 7) × (1 ≤ result) × (result ≤ 7) }
+// Why a call is refused whose baseline is too long: 1 to 5 come before 7.
+fn long_refusal(tree: &[u8], room: usize) -> Refusal
+    ensures first { number_of result ≡ tree_refusal tree.now or_else 5 when ltb room (length tree.now) or_else 7 }
+    ensures most { number_of result ≤ 7 }
 {
-    let refused = tree::tree_refusal(tree);
-    if refused != 0 {
-        return refused;
+    match tree::accept(tree) {
+        Err(refusal) => refusal,
+        Ok(()) if room < tree.len() => Refusal::Work,
+        Ok(()) => Refusal::Baseline,
     }
-    if room < tree.len() {
-        return 5;
-    }
-    7
 }
 
 // The call check with any limits: the refusals 1 to 5, 7, 8 and 9; the tree's texts blanked into work, its records, and the listing.
@@ -125,26 +110,23 @@ pub fn check_with(
     work: &mut [u8],
     lent: &mut [u8],
     output: &mut [u8],
-) -> CheckAnswer
-    ensures { Checks result
+) -> Result<CheckCounts, Refusal>
+    ensures { Checks (check_told result)
         (check_call gate (limits_of limits) tree.now baseline.now work.old lent.old output.old)
         work.new
         lent.new
         output.new }
 {
     if MAX_BASELINE < baseline.len() {
-        return refusal(long_number(tree, work.len()));
+        return Err(long_refusal(tree, work.len()));
     }
-    let scan = gate_scan::scan(tree, work, lent);
-    if scan.number != 0 {
-        return refusal(scan.number);
-    }
+    let functions = gate_scan::scan(tree, work, lent)?;
     let end = read_length(baseline);
     told(
         limits,
         tree,
         lent,
-        scan.functions as usize,
+        functions as usize,
         &baseline[..end],
         output,
     )
@@ -157,8 +139,8 @@ pub fn check(
     work: &mut [u8],
     lent: &mut [u8],
     output: &mut [u8],
-) -> CheckAnswer
-    ensures { Checks result
+) -> Result<CheckCounts, Refusal>
+    ensures { Checks (check_told result)
         (check_call gate gate_limits tree.now baseline.now work.old lent.old output.old)
         work.new
         lent.new

@@ -9,7 +9,7 @@ use Rattle.std.proofs.Math.Dec.{ltb}
 use Rattle.std.proofs.Math.ListN.{length-map}
 use Rattle.std.proofs.lemmas.List.{length-replicate}
 use borrow.Author.Tests.{le-ltb, lt-ltb, ltb-false}
-use Rattle.text_rules.specs.Answer.{answer_at}
+use Rattle.text_rules.specs.Answer.{Answer, answer_at}
 use Rattle.text_rules.specs.Bytes.{◌or_else◌, ◌when◌, if◌then◌otherwise◌, overwritten}
 use Rattle.text_rules.specs.BytesLaws.{map-append, or_else-first, or_else-rest, when-fails}
 use Rattle.gate_rules.proofs.BufferLaws.{refusal-most}
@@ -22,12 +22,11 @@ use Rattle.gate_rules.specs.Scan.{functions_of}
 use Rattle.gate_rules.proofs.SumLaws.{no_sum}
 use Rattle.gate_rules.specs.Tree.{file_count, sources, sources_from, tree_refusal}
 use Rattle.gate_rules.proofs.TreeLaws.{laid_out, unrefused}
-use Rattle.answers.specs.declared.Answer.{Answer}
 use Rattle.gate_scan.specs.Scans.{blanked_work, filled}
 use Rattle.sums.specs.Sums.{first_entries, none, stored, told}
 use Rattle.sums.specs.Table.{entries-are}
 use Rattle.sums.specs.declared.FileSum.{FileSum}
-use Rattle.gate_report.specs.Listed.{Listed, late_number}
+use Rattle.gate_report.specs.Listed.{Listed, late_number, report_told}
 use Rattle.gate_report.specs.declared.Core.{Core}
 
 -- the first of the refusals 1 to 6, or 0
@@ -48,9 +47,9 @@ module _ (L : Limits) (tree work records : List ℕ) (entries : ℕ) (output : L
   core_number = report_number gate L tree work records (any_table entries) output
 
   pub record CoredAt (n : ℕ) (r : Core) (work' records' output' : List ℕ) : Type 0 where
-    pub number_is : r.answer.number ≡ n
-    pub written_is : r.answer.written ≡ (answer_at n (length (report_of gate L tree)) (length (functions_of gate tree))).written
-    pub functions-is : r.answer.functions ≡ (answer_at n (length (report_of gate L tree)) (length (functions_of gate tree))).functions
+    pub number_is : (report_told r.answer).number ≡ n
+    pub written_is : (report_told r.answer).written ≡ (answer_at n (length (report_of gate L tree)) (length (functions_of gate tree))).written
+    pub functions-is : (report_told r.answer).functions ≡ (answer_at n (length (report_of gate L tree)) (length (functions_of gate tree))).functions
     pub work-is : work' ≡ work_after gate n tree work
     pub records_is : records' ≡ records_after gate n tree records
     pub output-is : output' ≡ output_after n (report_of gate L tree) output
@@ -136,7 +135,7 @@ module _ (L : Limits) (tree work records : List ℕ) (entries : ℕ) (output : L
 
   -- a refusal that leaves every buffer and the table
   stay_with : (r : Core) (m : ℕ) → is_scanned (suc m) ≡ false → (eqb (suc m) 0 || eqb (suc m) 9) ≡ false
-      → (r.answer.number ≡ suc m) × (r.answer.written ≡ 0) × (r.answer.functions ≡ 0) × (r.files ≡ 0)
+      → ((report_told r.answer).number ≡ suc m) × ((report_told r.answer).written ≡ 0) × ((report_told r.answer).functions ≡ 0) × (r.files ≡ 0)
       → CoredAt L tree work records entries output (suc m) r work records output
   unfolding work_after records_after first_entries
   stay_with r m a b q =
@@ -152,7 +151,7 @@ module _ (L : Limits) (tree work records : List ℕ) (entries : ℕ) (output : L
         filled_is = ap (first_entries r.totals.of) q.3 ∙ rw b;
       }
 
-  stays : (r : Core) (n : ℕ) → 1 ≤ n → n ≤ 6 → (r.answer.number ≡ n) × (r.answer.written ≡ 0) × (r.answer.functions ≡ 0) × (r.files ≡ 0)
+  stays : (r : Core) (n : ℕ) → 1 ≤ n → n ≤ 6 → ((report_told r.answer).number ≡ n) × ((report_told r.answer).written ≡ 0) × ((report_told r.answer).functions ≡ 0) × (r.files ≡ 0)
       → CoredAt L tree work records entries output n r work records output
   stays r zero h k q = absurd (omega arith)
   stays r (suc zero) h k q = stay_with r 0 refl refl q
@@ -163,7 +162,7 @@ module _ (L : Limits) (tree work records : List ℕ) (entries : ℕ) (output : L
   stays r (suc (suc (suc (suc (suc (suc zero)))))) h k q = stay_with r 5 refl refl q
   stays r (suc (suc (suc (suc (suc (suc (suc n))))))) h k q = absurd (omega arith)
 
-  pub refused_core : (r : Core) (n : ℕ) → n ≡ early_number tree (length work) entries → 1 ≤ n → (r.answer.number ≡ n) × (r.answer.written ≡ 0) × (r.answer.functions ≡ 0) × (r.files ≡ 0)
+  pub refused_core : (r : Core) (n : ℕ) → n ≡ early_number tree (length work) entries → 1 ≤ n → ((report_told r.answer).number ≡ n) × ((report_told r.answer).written ≡ 0) × ((report_told r.answer).functions ≡ 0) × (r.files ≡ 0)
       → Cored L tree work records entries output r work records output
   refused_core r n e h q =
       subst (λ m. CoredAt L tree work records entries output m r work records output) (sym (number-is-early ∙ ap (λ m. m or_else late) (sym e) ∙ stop n h))
@@ -195,7 +194,7 @@ module _ (L : Limits) (tree work records : List ℕ) (entries : ℕ) (output : L
     number-late : core_number L tree work records entries output ≡ late
     number-late = number-is-early ∙ ap (λ m. m or_else late) e
 
-    many-at : (r.answer.number ≡ 8) × (r.answer.written ≡ 0) × (r.answer.functions ≡ 0) × (r.files ≡ 0) → CoredAt L tree work records entries output 8 r w l output
+    many-at : ((report_told r.answer).number ≡ 8) × ((report_told r.answer).written ≡ 0) × ((report_told r.answer).functions ≡ 0) × (r.files ≡ 0) → CoredAt L tree work records entries output 8 r w l output
     unfolding work_after records_after first_entries gate
     many-at q =
         record {
@@ -210,7 +209,7 @@ module _ (L : Limits) (tree work records : List ℕ) (entries : ℕ) (output : L
           filled_is = ap (first_entries r.totals.of) q.3;
         }
 
-    pub many_core : room records < length (functions_of gate tree) → (r.answer.number ≡ 8) × (r.answer.written ≡ 0) × (r.answer.functions ≡ 0) × (r.files ≡ 0)
+    pub many_core : room records < length (functions_of gate tree) → ((report_told r.answer).number ≡ 8) × ((report_told r.answer).written ≡ 0) × ((report_told r.answer).functions ≡ 0) × (r.files ≡ 0)
         → Cored L tree work records entries output r w l output
     unfolding late
     many_core h q =
@@ -274,7 +273,7 @@ module _ (L : Limits) (tree work records : List ℕ) (table : List FileSum) (out
   same_number = rw (length-replicate (length table) no_sum, length-map table told)
 
   pub core_reports : (r : Core) (w l o : List ℕ) (left : List FileSum) → Cored L tree work records (length table) output r w l o → left ≡ overwritten (first_entries r.totals.of r.files) table
-      → Reports r.answer (report_call gate L tree work records (map told table) output) w l left o
+      → Reports (report_told r.answer) (report_call gate L tree work records (map told table) output) w l left o
   unfolding report_call
   core_reports r w l o left c e =
       let n = report_number gate L tree work records (map told table) output in

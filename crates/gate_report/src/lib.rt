@@ -8,17 +8,18 @@ ghost use Rattle.gate_rules.specs.Gate.{gate};
 ghost use Rattle.gate_rules.specs.Report.{weight_rows};
 ghost use Rattle.gate_rules.specs.ReportCall.{report_call, report_of};
 ghost use Rattle.gate_rules.specs.Scan.{functions_of};
+ghost use Rattle.answers.specs.Numbers.{refusal_number};
 ghost use Rattle.functions.specs.Shown.{Stand, limits_of};
 ghost use Rattle.report_files.specs.Files.{Heavy, heaviest_files};
 ghost use Rattle.report_files.specs.Weights.{Known};
 ghost use Rattle.report_functions.specs.Counting.{Counted};
 ghost use Rattle.report_rows.specs.Texts.{head_length};
-ghost use Rattle.gate_report.specs.Listed.{Listed};
+ghost use Rattle.gate_report.specs.Listed.{Listed, report_told};
 ghost use Rattle.gate_report.specs.Reports.{Cored, Reports, ReportsAlone, any_table, early_number};
 ghost use Rattle.sums.specs.Sums.{told};
 ghost use Rattle.gate_report.specs.Text.{first_part, last_part};
 
-use answers::Answer;
+use answers::Refusal;
 use functions::Limits;
 use report_files::Heaviest;
 use report_functions::Counts;
@@ -27,40 +28,45 @@ use sums::{FileSum, Totals};
 // The bytes of the line before the files.
 const FILES_LINE: usize = 47;
 
-// What is answered, and how many entries of the lent table are to be filled, with their sums.
+// What report answers: the bytes written, and how many functions the tree has.
+#[derive(Clone, Copy)]
+pub struct ReportCounts {
+    pub written: u32,
+    pub functions: u32,
+}
+
+// What is answered, and how many entries of the lent table are to be filled, with their sums: with 9 they are, and with no other refusal.
 #[derive(Drop)]
 pub struct Core {
-    pub answer: Answer,
+    pub answer: Result<ReportCounts, Refusal>,
     pub files: u32,
     pub totals: Totals,
 }
 
 // A refusal that leaves the table.
-fn stopped(number: u32) -> Core
-    ensures { (result.answer.number ≡ number) × (result.answer.written ≡ 0) × (result.answer.functions ≡ 0) × (result.files ≡ 0) }
+fn stopped(refusal: Refusal) -> Core
+    ensures { (result.answer ≡ Err refusal) × (result.files ≡ 0) }
 {
     Core {
-        answer: answers::refusal(number),
+        answer: Err(refusal),
         files: 0,
         totals: Totals { of: [0u32; 1024] },
     }
 }
 
-// The first of the refusals 1 to 6 that applies, or 0.
-fn early_refusal(tree: &[u8], work: usize, entries: usize) -> u32
-    ensures { result ≡ early_number tree.now work entries }
+// The first of the refusals 1 to 6 that applies.
+#[tactic(auto, unfolding(crate::specs::Reports::early_number))]
+fn early(tree: &[u8], work: usize, entries: usize) -> Result<(), Refusal>
+    ensures { refusal_number result ≡ early_number tree.now work entries }
 {
-    let refused = tree::tree_refusal(tree);
-    if refused != 0 {
-        return refused;
-    }
+    tree::accept(tree)?;
     if work < tree.len() {
-        return 5;
+        return Err(Refusal::Work);
     }
     if entries < layout::file_count(tree) {
-        return 6;
+        return Err(Refusal::Sums);
     }
-    0
+    Ok(())
 }
 
 // The bytes of the report.
@@ -148,18 +154,17 @@ fn listed(limits: Limits, tree: &[u8], lent: &[u8], n: usize, output: &mut [u8])
     let length = report_length(tree, &of, n as u32, counts, heaviest);
     if output.len() < length {
         return Core {
-            answer: answers::refusal(9),
+            answer: Err(Refusal::Output),
             files: files as u32,
             totals,
         };
     }
     let written = put_report(limits, tree, lent, &of, n, counts, heaviest, output);
     Core {
-        answer: Answer {
-            number: 0,
+        answer: Ok(ReportCounts {
             written: written as u32,
             functions: n as u32,
-        },
+        }),
         files: files as u32,
         totals,
     }
@@ -177,13 +182,12 @@ pub fn report_core(
     ensures { Cored (limits_of limits) tree.now work.old lent.old entries output.old result
         work.new lent.new output.new }
 {
-    let refused = early_refusal(tree, work.len(), entries);
-    if refused != 0 {
-        return stopped(refused);
+    if let Err(refusal) = early(tree, work.len(), entries) {
+        return stopped(refusal);
     }
     let n = gate_scan::scanned(tree, work, lent);
     if gate_scan::room(lent.len()) < n {
-        return stopped(8);
+        return stopped(Refusal::Functions);
     }
     listed(limits, tree, lent, n, output)
 }
@@ -196,8 +200,8 @@ pub fn report_with(
     lent: &mut [u8],
     table: &mut [FileSum],
     output: &mut [u8],
-) -> Answer
-    ensures { Reports result (report_call gate (limits_of limits) tree.now work.old lent.old (map told table.old) output.old)
+) -> Result<ReportCounts, Refusal>
+    ensures { Reports (report_told result) (report_call gate (limits_of limits) tree.now work.old lent.old (map told table.old) output.old)
         work.new lent.new table.new output.new }
 {
     let r = report_core(limits, tree, work, lent, table.len(), output);
@@ -212,8 +216,8 @@ pub fn report(
     lent: &mut [u8],
     table: &mut [FileSum],
     output: &mut [u8],
-) -> Answer
-    ensures { Reports result (report_call gate gate_limits tree.now work.old lent.old (map told table.old) output.old)
+) -> Result<ReportCounts, Refusal>
+    ensures { Reports (report_told result) (report_call gate gate_limits tree.now work.old lent.old (map told table.old) output.old)
         work.new lent.new table.new output.new }
 {
     report_with(functions::gate_limits(), tree, work, lent, table, output)
@@ -226,8 +230,8 @@ pub fn report_alone_with(
     work: &mut [u8],
     lent: &mut [u8],
     output: &mut [u8],
-) -> Answer
-    ensures { ReportsAlone result (report_call gate (limits_of limits) tree.now work.old lent.old (any_table 1024) output.old)
+) -> Result<ReportCounts, Refusal>
+    ensures { ReportsAlone (report_told result) (report_call gate (limits_of limits) tree.now work.old lent.old (any_table 1024) output.old)
         work.new lent.new output.new }
 {
     let mut table = [FileSum { file: 0, sum: 0 }; 1024];
@@ -235,8 +239,8 @@ pub fn report_alone_with(
 }
 
 // The report with a table of its own.
-pub fn report_alone(tree: &[u8], work: &mut [u8], lent: &mut [u8], output: &mut [u8]) -> Answer
-    ensures { ReportsAlone result (report_call gate gate_limits tree.now work.old lent.old (any_table 1024) output.old)
+pub fn report_alone(tree: &[u8], work: &mut [u8], lent: &mut [u8], output: &mut [u8]) -> Result<ReportCounts, Refusal>
+    ensures { ReportsAlone (report_told result) (report_call gate gate_limits tree.now work.old lent.old (any_table 1024) output.old)
         work.new lent.new output.new }
 {
     report_alone_with(functions::gate_limits(), tree, work, lent, output)

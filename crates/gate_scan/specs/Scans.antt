@@ -1,10 +1,10 @@
 -- What scan answers and leaves, one named equation for the answer's numbers and for each lent buffer.
 use Prim.Native.Nat.{ℕ, zero, suc, ◌≤◌, ◌<◌}
-use Rattle.std.specs.Prelude.{◌≡◌, List, map, length, take}
+use Rattle.std.specs.Prelude.{◌≡◌, List, Result, map, length, take}
 use Rattle.std.proofs.Math.Path.{refl, ap}
 use Rattle.std.proofs.Common.{subst, sym, ◌∙◌, arith}
 use borrow.Author.Tests.{le-ltb, lt-ltb}
-use Rattle.text_rules.specs.Answer.{answer_at}
+use Rattle.text_rules.specs.Answer.{Answer, answer_at}
 use Rattle.text_rules.specs.Bytes.{joined, overwritten}
 use Rattle.gate_rules.proofs.BufferLaws.{records-length}
 use Rattle.gate_rules.specs.Calls.{Scanned, records_after, room, scan_call, scan_number, work_after}
@@ -12,7 +12,12 @@ use Rattle.gate_rules.specs.Gate.{gate}
 use Rattle.gate_rules.specs.Records.{blank_into, record_bytes, records}
 use Rattle.gate_rules.specs.Scan.{functions_of}
 use Rattle.gate_rules.specs.Tree.{sources, tree_refusal}
-use Rattle.answers.specs.declared.Answer.{Answer}
+use Rattle.answers.specs.Numbers.{answer_by}
+use Rattle.answers.specs.declared.Refusal.{Refusal}
+
+-- what scan hands back, as the record of the definitions: no bytes are written
+abbrev pub scan_answer : Result ℕ Refusal → Answer
+scan_answer = answer_by (λ _. 0) (λ n. n)
 
 pub record Scans (r : Answer) (c : Scanned) (work records : List ℕ) : Type 0 where
   pub number_is : r.number ≡ c.answer.number

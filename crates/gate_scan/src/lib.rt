@@ -10,10 +10,10 @@ ghost use Rattle.gate_rules.specs.Gate.{gate};
 ghost use Rattle.gate_rules.specs.Scan.{functions_of};
 ghost use Rattle.gate_rules.specs.Tree.{is_laid_out, sources, tree_refusal};
 ghost use Rattle.records.specs.Record.{numbers};
-ghost use Rattle.gate_scan.specs.Scans.{Scans, blanked_work, filled};
+ghost use Rattle.gate_scan.specs.Scans.{Scans, blanked_work, filled, scan_answer};
 ghost use Rattle.gate_scan.specs.Told.{Small, TextsIn, records_for, told};
 
-use answers::Answer;
+use answers::Refusal;
 use records::Record;
 use source::Found;
 
@@ -150,24 +150,17 @@ pub fn scanned(tree: &[u8], work: &mut [u8], lent: &mut [u8]) -> usize
     scan_texts(tree, work, lent)
 }
 
-// The call scan: the refusals 1 to 5 and 8; records in scan order.
-pub fn scan(tree: &[u8], work: &mut [u8], lent: &mut [u8]) -> Answer
-    ensures { Scans result (scan_call gate tree.now work.old lent.old) work.new lent.new }
+// The call scan: the refusals 1 to 5 and 8; records in scan order. Answers how many functions there are.
+pub fn scan(tree: &[u8], work: &mut [u8], lent: &mut [u8]) -> Result<u32, Refusal>
+    ensures { Scans (scan_answer result) (scan_call gate tree.now work.old lent.old) work.new lent.new }
 {
-    let refused = tree::tree_refusal(tree);
-    if refused != 0 {
-        return answers::refusal(refused);
-    }
+    tree::accept(tree)?;
     if work.len() < tree.len() {
-        return answers::refusal(5);
+        return Err(Refusal::Work);
     }
     let n = scanned(tree, work, lent);
     if room(lent.len()) < n {
-        return answers::refusal(8);
+        return Err(Refusal::Functions);
     }
-    Answer {
-        number: 0,
-        written: 0,
-        functions: n as u32,
-    }
+    Ok(n as u32)
 }

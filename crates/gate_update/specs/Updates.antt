@@ -1,15 +1,15 @@
 -- What update answers and leaves, one named equation for each of the answer's numbers and for each lent buffer. An update is a scan, and then a listing:
 -- it refuses first what the scan refuses.
 use Prim.Native.Nat.{ℕ, zero, suc, ◌≤◌, ◌<◌}
-use Rattle.std.specs.Prelude.{◌≡◌, refl, List, length}
+use Rattle.std.specs.Prelude.{◌≡◌, refl, Result, Ok, Err, List, length}
 use Rattle.std.proofs.Math.Path.{ap, subst, sym}
 use Rattle.std.proofs.Common.{◌∙◌, arith}
 use Rattle.std.proofs.Math.Dec.{ltb}
 use borrow.Author.Tests.{le-ltb, lt-ltb, ltb-false}
-use Rattle.text_rules.specs.Answer.{answer_at}
+use Rattle.text_rules.specs.Answer.{Answer, answer_at}
 use Rattle.text_rules.specs.Bytes.{◌or_else◌, ◌when◌, overwritten}
 use Rattle.text_rules.specs.BytesLaws.{or_else-first, or_else-rest, when-fails}
-use Rattle.gate_rules.specs.Calls.{Updated, output_after, records_after, room, scan_call, scan_number, update_answer, update_call, update_number, work_after}
+use Rattle.gate_rules.specs.Calls.{UpdateAnswer, Updated, output_after, records_after, room, scan_call, scan_number, update_answer, update_call, update_number, work_after}
 use Rattle.gate_rules.specs.Functions.{Limits}
 use Rattle.gate_rules.specs.Gate.{gate}
 use Rattle.gate_rules.proofs.LeftLaws.{update-keeps}
@@ -18,11 +18,17 @@ use Rattle.gate_rules.proofs.SettlesProof.{updated_enough}
 use Rattle.gate_rules.proofs.TableLaws.{answer-number, updated_number}
 use Rattle.gate_rules.specs.Tree.{tree_refusal}
 use Rattle.gate_rules.specs.Update.{baseline_text, recorded}
-use Rattle.answers.specs.declared.Answer.{Answer}
+use Rattle.answers.specs.Numbers.{number_of}
+use Rattle.answers.specs.declared.Refusal.{Refusal}
 use Rattle.functions.specs.Shown.{Stand}
 use Rattle.functions.specs.Stands.{stands}
 use Rattle.gate_scan.specs.Scans.{Scans}
-use Rattle.gate_update.specs.declared.UpdateAnswer.{UpdateAnswer}
+use Rattle.gate_update.specs.declared.UpdateCounts.{UpdateCounts}
+
+-- what update hands back, as the record of the definitions
+abbrev pub update_told : Result UpdateCounts Refusal → UpdateAnswer
+update_told (Ok c) = record { number = 0; written = c.written; functions = c.functions; recorded = c.recorded }
+update_told (Err e) = record { number = number_of e; written = 0; functions = 0; recorded = 0 }
 
 pub record Updates (r : UpdateAnswer) (c : Updated) (work records output : List ℕ) : Type 0 where
   pub number_is : r.number ≡ c.answer.number

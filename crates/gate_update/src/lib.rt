@@ -6,32 +6,20 @@ ghost use Rattle.gate_rules.specs.Calls.{update_call};
 ghost use Rattle.gate_rules.specs.Functions.{gate_limits};
 ghost use Rattle.gate_rules.specs.Gate.{gate};
 ghost use Rattle.functions.specs.Shown.{limits_of};
-ghost use Rattle.gate_update.specs.Updates.{Updates};
+ghost use Rattle.gate_update.specs.Updates.{Updates, update_told};
 
+use answers::Refusal;
 use functions::Limits;
 
 // The bytes of the header.
 const HEADER_LENGTH: usize = 396;
 
-// What update answers. The number is 0 on success, and else says what was refused.
+// What update answers: the bytes written, how many functions the tree has, and how many are recorded.
 #[derive(Clone, Copy)]
-pub struct UpdateAnswer {
-    pub number: u32,
+pub struct UpdateCounts {
     pub written: u32,
     pub functions: u32,
     pub recorded: u32,
-}
-
-// A refusal's counts are 0.
-fn refusal(number: u32) -> UpdateAnswer
-    ensures { (result.number ≡ number) × (result.written ≡ 0) × (result.functions ≡ 0) × (result.recorded ≡ 0) }
-{
-    UpdateAnswer {
-        number,
-        written: 0,
-        functions: 0,
-        recorded: 0,
-    }
 }
 
 // Update by other limits. Its refusals are those of the scan, and 9, which is known before anything is written.
@@ -41,31 +29,32 @@ pub fn update_with(
     work: &mut [u8],
     lent: &mut [u8],
     output: &mut [u8],
-) -> UpdateAnswer
-    ensures { Updates result (update_call gate (limits_of limits) tree.now work.old lent.old output.old)
+) -> Result<UpdateCounts, Refusal>
+    ensures { Updates (update_told result) (update_call gate (limits_of limits) tree.now work.old lent.old output.old)
         work.new lent.new output.new }
 {
-    let scanned = gate_scan::scan(tree, work, lent);
-    if scanned.number != 0 {
-        return refusal(scanned.number);
-    }
-    let n = scanned.functions as usize;
+    let functions = gate_scan::scan(tree, work, lent)?;
+    let n = functions as usize;
     let size = update_rows::rows_size(tree, lent, n, limits);
     if output.len() < HEADER_LENGTH + size.bytes {
-        return refusal(9);
+        return Err(Refusal::Output);
     }
     let written = update_rows::put_baseline(tree, lent, n, limits, size.count, output);
-    UpdateAnswer {
-        number: 0,
+    Ok(UpdateCounts {
         written: written as u32,
-        functions: scanned.functions,
+        functions,
         recorded: size.count as u32,
-    }
+    })
 }
 
 // The call update: the refusals 1 to 5, 8 and 9; the baseline of the functions over the gate's limits.
-pub fn update(tree: &[u8], work: &mut [u8], lent: &mut [u8], output: &mut [u8]) -> UpdateAnswer
-    ensures { Updates result (update_call gate gate_limits tree.now work.old lent.old output.old)
+pub fn update(
+    tree: &[u8],
+    work: &mut [u8],
+    lent: &mut [u8],
+    output: &mut [u8],
+) -> Result<UpdateCounts, Refusal>
+    ensures { Updates (update_told result) (update_call gate gate_limits tree.now work.old lent.old output.old)
         work.new lent.new output.new }
 {
     update_with(functions::gate_limits(), tree, work, lent, output)

@@ -3,6 +3,9 @@
 
 ghost use Rattle.std.specs.Prelude.{◌≡◌, true, []};
 ghost use Rattle.gate_rules.specs.Tree.{is_laid_out, paths_rise, sources, texts_good, tree_refusal};
+ghost use Rattle.answers.specs.Numbers.{refusal_number};
+
+use answers::Refusal;
 
 // The bytes of a tree.
 pub const MAX_TREE: usize = 16777216;
@@ -38,21 +41,22 @@ pub fn texts_good(tree: &[u8]) -> bool
     true
 }
 
-// The first of the refusals 1 to 4 that applies, or 0.
-pub fn tree_refusal(tree: &[u8]) -> u32
-    ensures { result ≡ tree_refusal tree.now }
+// Whether a tree is accepted: the first of the refusals 1 to 4 that applies.
+#[tactic(auto, unfolding(gate_rules::specs::Tree::tree_refusal))]
+pub fn accept(tree: &[u8]) -> Result<(), Refusal>
+    ensures { refusal_number result ≡ tree_refusal tree.now }
 {
     if tree.len() > MAX_TREE {
-        return 1;
+        return Err(Refusal::Length);
     }
     if !layout::laid_out(tree) {
-        return 2;
+        return Err(Refusal::Layout);
     }
     if !paths_rise(tree) {
-        return 3;
+        return Err(Refusal::Path);
     }
     if !texts_good(tree) {
-        return 4;
+        return Err(Refusal::Text);
     }
-    0
+    Ok(())
 }

@@ -4,15 +4,13 @@ use native.Mathlib.Omega.{arith}
 use Rattle.blanking.proofs.Whole.{accepted, too_long, too_short}
 use Rattle.blanking.proofs.blank.Goals as goal
 
-pub returns-then-n-gt-MAX_TEXT : goal.returns-then-n-gt-MAX_TEXT
-returns-then-n-gt-MAX_TEXT c = let a = c.args in
-    let r = c.refusal in
-    too_long a.text.now a.output.now r.result (omega arith) r.ensures.0 r.ensures.1 r.ensures.2
+pub returns-then-text-gt-MAX_TEXT : goal.returns-then-text-gt-MAX_TEXT
+returns-then-text-gt-MAX_TEXT c = let a = c.args in
+    too_long a.text.now a.output.now _ (omega arith) refl refl refl
 
-pub returns-then-output-n : goal.returns-then-output-n
-returns-then-output-n c = let a = c.args in
-    let r = c.refusal-then-output-n in
-    too_short a.text.now a.output.now r.result (omega arith) (omega arith) r.ensures.0 r.ensures.1 r.ensures.2
+pub returns-then-output-text : goal.returns-then-output-text
+returns-then-output-text c = let a = c.args in
+    too_short a.text.now a.output.now _ (omega arith) (omega arith) refl refl refl
 
 pub returns : goal.returns
 returns c = let a = c.args in

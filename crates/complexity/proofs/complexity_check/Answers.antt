@@ -1,5 +1,8 @@
 -- `complexity::complexity_check` meets its contract: it is the call check, with its counts put.
+use mathlib.Core.Path.{refl, ◌∙◌}
 use mathlib.Core.List.{[], ◌∷◌}
+use native.Mathlib.Omega.{arith}
+use Rattle.answers.proofs.NumbersLaws.{number_least}
 use Rattle.gate_rules.proofs.ExportLaws.{check_export, check_export_short}
 use Rattle.gate_rules.specs.Functions.{gate_limits}
 use Rattle.complexity.specs.Exported.{ends_as, ends-short}
@@ -8,14 +11,20 @@ use Rattle.complexity.proofs.complexity_check.Goals as goal
 pub returns-then-counts-lt-CHECK_COUNTS : goal.returns-then-counts-lt-CHECK_COUNTS
 returns-then-counts-lt-CHECK_COUNTS c =
     let a = c.args in
-    ends-short c.too_few.result a.tree.now a.work.now a.records.now a.output.now a.counts.now _
-    (check_export_short gate_limits a.tree.now a.baseline.now a.work.now a.records.now a.output.now a.counts.now c.if-counts-lt-CHECK_COUNTS.true) c.too_few.ensures
+    ends-short _ a.tree.now a.work.now a.records.now a.output.now a.counts.now _
+    (check_export_short gate_limits a.tree.now a.baseline.now a.work.now a.records.now a.output.now a.counts.now c.if-counts-lt-CHECK_COUNTS.true) (c.from.ensures ∙ c.too_few.ensures)
 
-pub returns : goal.returns
-returns c =
+pub returns-in-Ok : goal.returns-in-Ok
+returns-in-Ok c =
     let a = c.args in
-    let r = c.check-r.result in
-    let u = c.check-r.ensures in
-    ends_as 16 _ _ _ _ _ _ _ (check_export gate_limits a.tree.now a.baseline.now a.work.now a.records.now a.output.now a.counts.now c.if-counts-lt-CHECK_COUNTS.false)
-    c.check_counts.result r.number (r.written ∷ r.functions ∷ r.regressed ∷ r.stale ∷ []) _ _ _ _ c.check_counts.ensures.0 u.number_is
-    (λ i. u.written_is i ∷ u.functions-is i ∷ u.regressed-is i ∷ u.stale-is i ∷ []) u.work-is u.records_is u.output-is c.check_counts.ensures.1
+    let u = c.in-Ok.ensures in
+    ends_as 16 _ _ _ _ _ _ _ (check_export gate_limits a.tree.now a.baseline.now a.work.now a.records.now a.output.now a.counts.now c.if-counts-lt-CHECK_COUNTS.false) _ 0 _ _ _ _ _ refl u.number_is
+    (λ i. u.written_is i ∷ u.functions-is i ∷ u.regressed-is i ∷ u.stale-is i ∷ []) u.work-is u.records_is u.output-is (record { success = λ z. c.put_counts.ensures; refused = λ h. absurd (omega arith) })
+
+pub returns-in-Err : goal.returns-in-Err
+returns-in-Err c =
+    let a = c.args in
+    let u = c.in-Err.ensures in
+    let some = number_least c.in-Err.refusal in
+    ends_as 16 _ _ _ _ _ _ _ (check_export gate_limits a.tree.now a.baseline.now a.work.now a.records.now a.output.now a.counts.now c.if-counts-lt-CHECK_COUNTS.false) _ _ _ _ _ _ _ c.from-in-Err.ensures u.number_is
+    (λ i. u.written_is i ∷ u.functions-is i ∷ u.regressed-is i ∷ u.stale-is i ∷ []) u.work-is u.records_is u.output-is (record { success = λ z. absurd (omega (arith, some, z)); refused = λ h. refl })

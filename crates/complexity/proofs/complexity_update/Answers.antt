@@ -1,5 +1,8 @@
 -- `complexity::complexity_update` meets its contract: it is the call update, with its counts put.
+use mathlib.Core.Path.{refl, ◌∙◌}
 use mathlib.Core.List.{[], ◌∷◌}
+use native.Mathlib.Omega.{arith}
+use Rattle.answers.proofs.NumbersLaws.{number_least}
 use Rattle.gate_rules.proofs.ExportLaws.{update_export, update_export_short}
 use Rattle.gate_rules.specs.Functions.{gate_limits}
 use Rattle.complexity.specs.Exported.{ends_as, ends-short}
@@ -8,14 +11,20 @@ use Rattle.complexity.proofs.complexity_update.Goals as goal
 pub returns-then-counts-lt-UPDATE_COUNTS : goal.returns-then-counts-lt-UPDATE_COUNTS
 returns-then-counts-lt-UPDATE_COUNTS c =
     let a = c.args in
-    ends-short c.too_few.result a.tree.now a.work.now a.records.now a.output.now a.counts.now _
-    (update_export_short gate_limits a.tree.now a.work.now a.records.now a.output.now a.counts.now c.if-counts-lt-UPDATE_COUNTS.true) c.too_few.ensures
+    ends-short _ a.tree.now a.work.now a.records.now a.output.now a.counts.now _
+    (update_export_short gate_limits a.tree.now a.work.now a.records.now a.output.now a.counts.now c.if-counts-lt-UPDATE_COUNTS.true) (c.from.ensures ∙ c.too_few.ensures)
 
-pub returns : goal.returns
-returns c =
+pub returns-in-Ok : goal.returns-in-Ok
+returns-in-Ok c =
     let a = c.args in
-    let r = c.update-r.result in
-    let u = c.update-r.ensures in
-    ends_as 12 _ _ _ _ _ _ _ (update_export gate_limits a.tree.now a.work.now a.records.now a.output.now a.counts.now c.if-counts-lt-UPDATE_COUNTS.false)
-    c.update_counts.result r.number (r.written ∷ r.functions ∷ r.recorded ∷ []) _ _ _ _ c.update_counts.ensures.0 u.number_is
-    (λ i. u.written_is i ∷ u.functions-is i ∷ u.recorded-is i ∷ []) u.work-is u.records_is u.output-is c.update_counts.ensures.1
+    let u = c.in-Ok.ensures in
+    ends_as 12 _ _ _ _ _ _ _ (update_export gate_limits a.tree.now a.work.now a.records.now a.output.now a.counts.now c.if-counts-lt-UPDATE_COUNTS.false) _ 0 _ _ _ _ _ refl u.number_is
+    (λ i. u.written_is i ∷ u.functions-is i ∷ u.recorded-is i ∷ []) u.work-is u.records_is u.output-is (record { success = λ z. c.put_counts.ensures; refused = λ h. absurd (omega arith) })
+
+pub returns-in-Err : goal.returns-in-Err
+returns-in-Err c =
+    let a = c.args in
+    let u = c.in-Err.ensures in
+    let some = number_least c.in-Err.refusal in
+    ends_as 12 _ _ _ _ _ _ _ (update_export gate_limits a.tree.now a.work.now a.records.now a.output.now a.counts.now c.if-counts-lt-UPDATE_COUNTS.false) _ _ _ _ _ _ _ c.from-in-Err.ensures u.number_is
+    (λ i. u.written_is i ∷ u.functions-is i ∷ u.recorded-is i ∷ []) u.work-is u.records_is u.output-is (record { success = λ z. absurd (omega (arith, some, z)); refused = λ h. refl })

@@ -10,11 +10,12 @@ use Rattle.gate_rules.specs.Gate.{gate}
 use Rattle.gate_rules.specs.Scan.{functions_of}
 use Rattle.functions.specs.Shown.{limits_of}
 use Rattle.places.specs.Places.{Filled}
-use Rattle.gate_check.specs.Checks.{tells-short, tells-whole}
+use Rattle.gate_check.specs.Checks.{refuses, tells-short, tells-whole}
 use Rattle.check_texts.specs.Texts.{both-length, both-put, measured-length}
 use Rattle.gate_check.proofs.Reading.{listing-small}
 use borrow.Author.Tests.{not-false}
 use Rattle.text_rules.specs.BytesLaws.{true_false}
+use Rattle.answers.specs.declared.Refusal.TheVariants.{Output}
 use Rattle.gate_check.proofs.told.Goals as goal
 use Rattle.gate_check.proofs.told.Goals.{else-not-ordered, then-not-ordered}
 
@@ -40,7 +41,7 @@ returns-then-output-bytes c =
     let es = entries_of_lines a.lines.now in
     let fs = functions_of gate a.tree.now in
     let bytes = measured-length L es fs _ _ _ _ c.measure-gone.ensures.1.0 c.measure-gone.ensures.1.1 c.measure-worse.ensures.0 c.measure-worse.ensures.1 in
-    tells-short c.refusal.result L es fs a.output.now (omega (arith, c.if-output-bytes.true, c.stale_length.ensures.0, c.verdict_length.ensures.0, bytes)) c.refusal.ensures
+    tells-short _ L es fs a.output.now (omega (arith, c.if-output-bytes.true, c.stale_length.ensures.0, c.verdict_length.ensures.0, bytes)) (refuses Output)
 
 pub put_stale-next-requires : goal.put_stale-next-requires
 put_stale-next-requires c =

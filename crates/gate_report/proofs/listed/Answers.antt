@@ -27,7 +27,7 @@ returns-then-output-length c =
     let a = c.args in
     let k = c.count-counts.ensures in
     let size = text-length (limits_of a.limits) a.tree.now a.n c.count-counts.result c.requires.1 k in
-    listed-short (limits_of a.limits) a.tree.now a.output.now _ c.file_count-files.ensures.0 c.file_totals-totals.ensures (omega (arith, size, c.if-output-length.true, c.report_length-length.ensures)) c.refusal.ensures
+    listed-short (limits_of a.limits) a.tree.now a.output.now _ c.file_count-files.ensures.0 c.file_totals-totals.ensures (omega (arith, size, c.if-output-length.true, c.report_length-length.ensures)) (refl, refl, refl)
 
 pub put_report-written-requires : goal.put_report-written-requires
 put_report-written-requires c =

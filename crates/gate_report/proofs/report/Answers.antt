@@ -9,4 +9,4 @@ use Rattle.gate_report.proofs.report.Goals as goal
 pub returns : goal.returns
 returns c =
     let a = c.args in
-    reports_by c.report_with.result (limits_of c.gate_limits.result) gate_limits a.tree.now a.work.now a.lent.now (map told a.table.now) a.output.now _ _ _ _ c.gate_limits.ensures c.report_with.ensures
+    reports_by _ (limits_of c.gate_limits.result) gate_limits a.tree.now a.work.now a.lent.now (map told a.table.now) a.output.now _ _ _ _ c.gate_limits.ensures c.report_with.ensures

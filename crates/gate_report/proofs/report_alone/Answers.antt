@@ -7,4 +7,4 @@ use Rattle.gate_report.proofs.report_alone.Goals as goal
 pub returns : goal.returns
 returns c =
     let a = c.args in
-    alone_by_lem c.report_alone_with.result (limits_of c.gate_limits.result) gate_limits a.tree.now a.work.now a.lent.now (any_table 1024) a.output.now _ _ _ c.gate_limits.ensures c.report_alone_with.ensures
+    alone_by_lem _ (limits_of c.gate_limits.result) gate_limits a.tree.now a.work.now a.lent.now (any_table 1024) a.output.now _ _ _ c.gate_limits.ensures c.report_alone_with.ensures

@@ -6,4 +6,4 @@ use Rattle.gate_report.proofs.report_alone_with.Goals as goal
 pub returns : goal.returns
 returns c =
     let a = c.args in
-    reports_alone c.report_with.result (limits_of a.limits) a.tree.now a.work.now a.lent.now a.output.now _ _ _ _ c.report_with.ensures
+    reports_alone _ (limits_of a.limits) a.tree.now a.work.now a.lent.now a.output.now _ _ _ _ c.report_with.ensures

@@ -3,31 +3,29 @@ use Prim.Native.Nat.{◌≤◌}
 use mathlib.Core.Path.{◌≡◌, refl, ap, sym, ◌∙◌}
 use native.Mathlib.Omega.{arith}
 use lib.ListN.{length}
+use Rattle.std.proofs.lemmas.Result.{err_from_is_err_and}
 use Rattle.gate_rules.proofs.BufferLaws.{refusal-most}
 use Rattle.gate_rules.specs.Tree.{tree_refusal}
+use Rattle.answers.specs.Numbers.{number_of}
+use Rattle.answers.proofs.NumbersLaws.{number_least}
 use Rattle.gate_scan.specs.Scans.{filled-length, many_scans, number-eight, number-five, number-tree, number_zero, refused_scans, scans_as, whole_scans}
 use Rattle.gate_scan.proofs.scan.Goals as goal
 
-pub returns-then-refused-ne0 : goal.returns-then-refused-ne0
-returns-then-refused-ne0 c =
+pub returns-in_err-accept : goal.returns-in_err-accept
+returns-in_err-accept c =
+    let p = err_from_is_err_and c.from_residual.result c.from_residual.ensures.1 in
     let a = c.args in
     let tree = a.tree.now in
-    let n = c.tree_refusal-refused.result in
-    let some : 1 ≤ n = omega (arith, c.if-refused-ne0.true) in
-    let most : n ≤ 7 = omega (arith, c.tree_refusal-refused.ensures, refusal-most tree) in
-    refused_scans tree a.work.now a.lent.now c.refusal.result n
-    (number-tree tree a.work.now a.lent.now n (sym c.tree_refusal-refused.ensures) some) some most c.refusal.ensures
+    let e = c.in_err-accept.field-0.0 in
+    let some = number_least e in
+    let most : number_of e ≤ 7 = omega (arith, c.in_err-accept.ensures, refusal-most tree) in
+    rw (p.1, p.2) (refused_scans tree a.work.now a.lent.now _ (number_of e) (number-tree tree a.work.now a.lent.now (number_of e) (sym c.in_err-accept.ensures) some) some most (refl, refl, refl))
 
 pub returns-then-work-tree : goal.returns-then-work-tree
 returns-then-work-tree c =
     let a = c.args in
-    let tree = a.tree.now in
-    refused_scans tree a.work.now a.lent.now c.refusal-then-work-tree.result 5
-    (number-five tree a.work.now a.lent.now (sym c.tree_refusal-refused.ensures ∙ c.if-refused-ne0.false) c.if-work-tree.true) (omega arith) (omega arith) c.refusal-then-work-tree.ensures
-
-pub scanned-n-requires : goal.scanned-n-requires
-scanned-n-requires c =
-    (sym c.tree_refusal-refused.ensures ∙ c.if-refused-ne0.false, omega (arith, c.if-work-tree.false))
+    refused_scans a.tree.now a.work.now a.lent.now _ 5 (number-five a.tree.now a.work.now a.lent.now (sym c.in_ok-accept.ensures) c.if-work-tree.true)
+    (omega arith) (omega arith) (refl, refl, refl)
 
 pub returns-then-room-n : goal.returns-then-room-n
 returns-then-room-n c =
@@ -35,13 +33,11 @@ returns-then-room-n c =
     let tree = a.tree.now in
     let work = a.work.now in
     let lent = a.lent.now in
-    let zero : tree_refusal tree ≡ 0 = sym c.tree_refusal-refused.ensures ∙ c.if-refused-ne0.false in
     let long : length tree ≤ length work = omega (arith, c.if-work-tree.false) in
     let d = c.scanned-n.ensures in
     let size = ap length d.3 ∙ filled-length tree work lent in
-    let room = c.room.ensures in
-    scans_as c.refusal-then-room-n.result _ _ _ _ _ d.2 d.3
-    (many_scans tree work lent c.refusal-then-room-n.result (number-eight tree work lent zero long (omega (arith, d.0, size, room, c.if-room-n.true))) c.refusal-then-room-n.ensures)
+    scans_as _ _ _ _ _ _ d.2 d.3
+    (many_scans tree work lent _ (number-eight tree work lent (sym c.in_ok-accept.ensures) long (omega (arith, d.0, size, c.room.ensures, c.if-room-n.true))) (refl, refl, refl))
 
 pub returns : goal.returns
 returns c =
@@ -49,10 +45,8 @@ returns c =
     let tree = a.tree.now in
     let work = a.work.now in
     let lent = a.lent.now in
-    let zero : tree_refusal tree ≡ 0 = sym c.tree_refusal-refused.ensures ∙ c.if-refused-ne0.false in
     let long : length tree ≤ length work = omega (arith, c.if-work-tree.false) in
     let d = c.scanned-n.ensures in
     let size = ap length d.3 ∙ filled-length tree work lent in
-    let room = c.room.ensures in
     scans_as _ _ _ _ _ _ d.2 d.3
-    (whole_scans tree work lent _ (number_zero tree work lent zero long (omega (arith, d.0, size, room, c.if-room-n.false))) (refl, refl, d.0))
+    (whole_scans tree work lent _ (number_zero tree work lent (sym c.in_ok-accept.ensures) long (omega (arith, d.0, size, c.room.ensures, c.if-room-n.false))) (refl, refl, d.0))

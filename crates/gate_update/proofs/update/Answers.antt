@@ -5,4 +5,4 @@ use Rattle.gate_update.proofs.update.Goals as goal
 pub returns : goal.returns
 returns c =
     let a = c.args in
-    updates_by c.update_with.result _ _ a.tree.now a.work.now a.lent.now a.output.now _ _ _ c.gate_limits.ensures c.update_with.ensures
+    updates_by _ _ _ a.tree.now a.work.now a.lent.now a.output.now _ _ _ c.gate_limits.ensures c.update_with.ensures
