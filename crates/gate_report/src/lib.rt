@@ -239,7 +239,12 @@ pub fn report_alone_with(
 }
 
 // The report with a table of its own.
-pub fn report_alone(tree: &[u8], work: &mut [u8], lent: &mut [u8], output: &mut [u8]) -> Result<ReportCounts, Refusal>
+pub fn report_alone(
+    tree: &[u8],
+    work: &mut [u8],
+    lent: &mut [u8],
+    output: &mut [u8],
+) -> Result<ReportCounts, Refusal>
     ensures { ReportsAlone (report_told result) (report_call gate gate_limits tree.now work.old lent.old (any_table 1024) output.old)
         work.new lent.new output.new }
 {

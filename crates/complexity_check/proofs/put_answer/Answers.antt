@@ -24,6 +24,8 @@ returns-in-Ok c =
 pub returns-in-Err-check : goal.returns-in-Err-check
 returns-in-Err-check c =
     let a = c.args in
-    let e = c.put_refusal-in-Err-check.ensures in
-    (e.0, e.1 ∙ ap (λ n. decimal n ++ 10 ∷ []) c.from-in-Err-check.ensures
-    ∙ refused-printed a.tree.now a.baseline.now a.work.now a.lent.now a.output.now c.requires.0 c.requires.1 c.requires.2 c.in_default.ensures _ _ _ _ c.in-Err-check.ensures (number_least c.in-Err-check.refusal))
+    let e = c.put_refusal-in-Err-check.ensures in (
+      e.0,
+      e.1 ∙ ap (λ n. decimal n ++ 10 ∷ []) c.from-in-Err-check.ensures
+          ∙ refused-printed a.tree.now a.baseline.now a.work.now a.lent.now a.output.now c.requires.0 c.requires.1 c.requires.2 c.in_default.ensures _ _ _ _ c.in-Err-check.ensures (number_least c.in-Err-check.refusal),
+    )

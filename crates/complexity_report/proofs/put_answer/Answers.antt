@@ -22,6 +22,8 @@ returns-in-Ok c =
 pub returns-in-Err : goal.returns-in-Err
 returns-in-Err c =
     let a = c.args in
-    let e = c.put_refusal-in-Err.ensures in
-    (e.0, e.1 ∙ ap (λ n. decimal n ++ 10 ∷ []) c.from-in-Err.ensures
-    ∙ refused-printed a.tree.now a.work.now a.lent.now a.output.now c.requires.0 c.requires.1 c.requires.2 c.if-tree-gt-MOST.false _ _ _ _ c.in-Err.ensures (number_least c.in-Err.refusal))
+    let e = c.put_refusal-in-Err.ensures in (
+      e.0,
+      e.1 ∙ ap (λ n. decimal n ++ 10 ∷ []) c.from-in-Err.ensures
+          ∙ refused-printed a.tree.now a.work.now a.lent.now a.output.now c.requires.0 c.requires.1 c.requires.2 c.if-tree-gt-MOST.false _ _ _ _ c.in-Err.ensures (number_least c.in-Err.refusal),
+    )

@@ -1,11 +1,10 @@
 -- `gate_scan::scan` meets its contract: its tests are those of the table, in the table's order.
 use Prim.Native.Nat.{◌≤◌}
-use mathlib.Core.Path.{◌≡◌, refl, ap, sym, ◌∙◌}
+use mathlib.Core.Path.{refl, ap, sym, ◌∙◌}
 use native.Mathlib.Omega.{arith}
 use lib.ListN.{length}
 use Rattle.std.proofs.lemmas.Result.{err_from_is_err_and}
 use Rattle.gate_rules.proofs.BufferLaws.{refusal-most}
-use Rattle.gate_rules.specs.Tree.{tree_refusal}
 use Rattle.answers.specs.Numbers.{number_of}
 use Rattle.answers.proofs.NumbersLaws.{number_least}
 use Rattle.gate_scan.specs.Scans.{filled-length, many_scans, number-eight, number-five, number-tree, number_zero, refused_scans, scans_as, whole_scans}
