@@ -2,7 +2,7 @@
 // table, and a search passes a chunk in which it cannot end without reading it.
 #![tactic(auto)]
 
-ghost use Rattle.std.specs.Prelude.{◌≡◌, true, [], ◌∷◌, ◌+◌, ◌-◌, ◌≤◌, ◌<◌, min, max, length, get_or};
+ghost use Rattle.std.specs.Prelude.{◌≡◌, true, [], ◌∷◌, ◌+◌, ◌-◌, ◌≤◌, ◌<◌, length, get_or};
 ghost use Rattle.text_rules.specs.Classes.{angle_close, brace_open, semicolon};
 ghost use Rattle.flat.specs.Body.{Counted};
 ghost use Rattle.chunks.specs.Passing.{Misses, PassesBody, PassesRound, TellsChunk, TellsCounts, TellsDepth};
@@ -15,6 +15,7 @@ use flat::Counts;
 pub const SIZE: usize = 4096;
 
 // The chunks that have sums. More than 16 MB have none.
+// Kept: the table is one array of fixed length, since it is lent by the caller and a call takes no memory beside what is lent.
 const MOST: usize = 4096;
 
 // The searches that go far before the sums are written: writing them takes a pass over the text.
@@ -88,19 +89,6 @@ fn closed_angle(c: Chunk) -> Chunk
             ..c
         },
     }
-}
-
-// The lesser of two numbers, and the greater.
-pub fn least(a: usize, b: usize) -> usize
-    ensures { result ≡ min a b }
-{
-    a.min(b)
-}
-
-pub fn most(a: usize, b: usize) -> usize
-    ensures { result ≡ max a b }
-{
-    a.max(b)
 }
 
 // The sums behind a `{` or `;`.
