@@ -2,144 +2,122 @@
 // told for all searches together.
 #![tactic(auto)]
 
-ghost use Rattle.std.specs.Prelude.{◌≡◌, List, ℕ, ◌+◌, ◌≤◌, ◌<◌, length, set};
+ghost use Rattle.std.specs.Prelude.{◌≡◌, ℕ, ◌+◌, ◌≤◌, ◌<◌, MatchOption};
 ghost use Rattle.source_rules.specs.Finding.{angle_after};
-ghost use Rattle.angles.specs.Angles.{Stack, Turned, above, boundary_of, less, more};
+ghost use Rattle.angles.specs.Angles.{less, more};
+ghost use Rattle.angles.specs.Groups.{NoTop, Stands, Top, Turns, above_in, boundary_in, pushed};
 
-pub fn place(n: u32) -> usize
-    ensures { (result ≡ n) × (result < 4294967296) }
-{
-    n as usize
+// The brackets that were opened while as many searches had begun: how many searches these are, and how many of the brackets are open.
+#[derive(Clone, Copy)]
+pub struct Group {
+    begun: u16,
+    size: u32,
 }
 
-pub fn wide(n: u16) -> usize
-    ensures { (result ≡ n) × (result < 65536) }
-{
-    n as usize
-}
-
-// Searches that began before it are inside an angle bracket that is open, and no others.
-pub fn boundary(height: usize, counts: &[u16; 2049]) -> usize
-    requires { (height ≤ 2049) × (length counts.now ≡ 2049) }
-    ensures { result ≡ boundary_of counts.now height }
-{
-    if height == 0 {
-        return 0;
-    }
-    wide(counts[height - 1])
-}
-
-// A group of some brackets.
-fn begin_group(
-    n: usize,
-    next: usize,
+// The groups that are not empty, the last one on top. Kept as an array with its height: a search takes no memory from the heap.
+#[derive(Drop)]
+pub struct Groups {
     height: usize,
-    counts: &mut [u16; 2049],
-    sizes: &mut [u32; 2049],
-) -> usize
-    requires { (n ≤ 4294967292)
-        × (next ≤ 2048)
-        × (height ≤ 2048)
-        × (length counts.old ≡ 2049)
-        × (length sizes.old ≡ 2049) }
-    ensures { (result ≡ height + 1)
-        × (counts.new ≡ set counts.old height next)
-        × (sizes.new ≡ set sizes.old height n) }
-{
-    counts[height] = next as u16;
-    sizes[height] = n as u32;
-    height + 1
+    groups: [Group; 2049],
 }
 
-// The groups once a number of brackets is opened. They belong to the last group if no search has begun since that one began.
-pub fn angles_opened(
-    n: usize,
-    next: usize,
-    at: usize,
-    height: usize,
-    counts: &mut [u16; 2049],
-    sizes: &mut [u32; 2049],
-) -> usize
-    requires { (at + n ≤ 4294967292) × Stack counts.old sizes.old height next at }
-    ensures { Turned (more n) next (at + n) counts.old sizes.old height counts.new sizes.new result }
-{
-    if n == 0 {
-        return height;
-    }
-    if height == 0 {
-        return begin_group(n, next, height, counts, sizes);
-    }
-    let last = height - 1;
-    if wide(counts[last]) != next {
-        return begin_group(n, next, height, counts, sizes);
-    }
-    sizes[last] = sizes[last] + n as u32;
-    height
-}
-
-// The groups once a number of brackets is closed, the last ones first. A group of which all are closed is gone.
-pub fn angles_closed(n: usize, height: usize, sizes: &mut [u32; 2049]) -> usize
-    requires { (height ≤ 2049) × (length sizes.old ≡ 2049) }
-    ensures { (counts : List ℕ) (next at : ℕ)
-        → Stack counts sizes.old height next at
-        → Turned (less n) next at counts sizes.old height counts sizes.new result }
-{
-    let mut left = n;
-    let mut rest = height;
-    while 0 < left {
-        if rest == 0 {
-            return rest;
+impl Groups {
+    // No bracket is open.
+    pub fn new() -> Groups
+        ensures { (at : ℕ) → Stands result 0 at }
+    {
+        Groups {
+            height: 0,
+            groups: [Group { begun: 0, size: 0 }; 2049],
         }
-        let last = rest - 1;
-        let size = place(sizes[last]);
-        if left < size {
-            sizes[last] = (size - left) as u32;
-            return rest;
+    }
+
+    // The last group.
+    fn top(&self) -> Option<Group>
+        ensures { MatchOption result (NoTop self.now) (Top self.now) }
+    {
+        let last = self.height.checked_sub(1)?;
+        self.groups.get(last).copied()
+    }
+
+    // Searches that began before it are inside an angle bracket that is open, and no others.
+    pub fn boundary(&self) -> usize
+        ensures { result ≡ boundary_in self.now }
+    {
+        match self.top() {
+            Some(g) => usize::from(g.begun),
+            None => 0,
         }
-        left -= size;
-        rest = last;
     }
-    rest
-}
 
-// The groups of angle brackets behind a byte. A `>` closes the last bracket that is open.
-pub fn angles_after(
-    b: u8,
-    next: usize,
-    at: usize,
-    height: usize,
-    counts: &mut [u16; 2049],
-    sizes: &mut [u32; 2049],
-) -> usize
-    requires { (at < 4294967292) × Stack counts.old sizes.old height next at }
-    ensures { Turned (angle_after b) next (at + 1) counts.old sizes.old height counts.new sizes.new result }
-{
-    if b == b'<' {
-        return angles_opened(1, next, at, height, counts, sizes);
+    // A group of some brackets.
+    fn push(&mut self, n: usize, next: usize)
+        requires few { n ≤ 4294967292 }
+        requires begun { next ≤ 2048 }
+        requires room { self.old.height ≤ 2048 }
+        ensures { self.new ≡ pushed self.old n next }
+    {
+        self.groups[self.height] = Group {
+            begun: next as u16,
+            size: n as u32,
+        };
+        self.height += 1;
     }
-    if b == b'>' {
-        return angles_closed(1, height, sizes);
-    }
-    height
-}
 
-// So many angle brackets are open at least for each search that has begun.
-pub fn least_angle(
-    next: usize,
-    at: usize,
-    height: usize,
-    counts: &[u16; 2049],
-    sizes: &[u32; 2049],
-) -> usize
-    requires { Stack counts.now sizes.now height next at }
-    ensures { (i : ℕ) → i < next → result ≤ above counts.now sizes.now height i }
-{
-    if height == 0 {
-        return 0;
+    // Some brackets are opened. They belong to the last group if no search has begun since that one began.
+    pub fn open(&mut self, n: usize, next: usize, at: usize)
+        requires few { at + n ≤ 4294967292 }
+        requires stands { Stands self.old next at }
+        ensures { Turns (more n) next (at + n) self.old self.new }
+    {
+        if n == 0 {
+            return;
+        }
+        match self.top() {
+            Some(g) if usize::from(g.begun) == next => {
+                self.groups[self.height - 1].size = g.size + n as u32;
+            }
+            _ => self.push(n, next),
+        }
     }
-    let last = height - 1;
-    if wide(counts[last]) != next {
-        return 0;
+
+    // Some brackets are closed, those of the last group first. A group of which all are closed is gone.
+    pub fn close(&mut self, n: usize)
+        ensures { (next at : ℕ) → Stands self.old next at → Turns (less n) next at self.old self.new }
+    {
+        let mut left = n;
+        while let Some(g) = self.top() {
+            let size = g.size as usize;
+            if left < size {
+                self.groups[self.height - 1].size = (size - left) as u32;
+                return;
+            }
+            left -= size;
+            self.height -= 1;
+        }
     }
-    place(sizes[last])
+
+    // A byte stands behind the groups. A `>` closes the last bracket that is open.
+    pub fn pass(&mut self, b: u8, next: usize, at: usize)
+        requires small { at < 4294967292 }
+        requires stands { Stands self.old next at }
+        ensures { Turns (angle_after b) next (at + 1) self.old self.new }
+    {
+        match b {
+            b'<' => self.open(1, next, at),
+            b'>' => self.close(1),
+            _ => {}
+        }
+    }
+
+    // So many angle brackets are open at least for each search that has begun.
+    pub fn least(&self, next: usize, at: usize) -> usize
+        requires { Stands self.now next at }
+        ensures { (i : ℕ) → i < next → result ≤ above_in self.now i }
+    {
+        match self.top() {
+            Some(g) if usize::from(g.begun) == next => g.size as usize,
+            _ => 0,
+        }
+    }
 }

@@ -1,46 +1,56 @@
--- Searches that are pending, in chains. The number 1 tells that the search of an index is pending. Each has a level; those of one level form a chain,
+-- Searches that are pending, in chains. Each has a level; those of one level form a chain,
 -- the last one first. An index in a chain is told by one more than itself, so that 0 is the end of the chain.
 use Rattle.std.specs.Prelude.{ℕ, zero, suc, ◌+◌, ◌≤◌, ◌<◌, ◌≡◌, refl, ◌≢◌, List, length, get_or, set}
 use Rattle.std.proofs.Common.{ap, subst, sym, ◌∙◌, inl, inr, arith, length-set, get_or-set_other, get_or-set_same}
 use Rattle.angles.specs.Angles.{same_or_not}
+use Rattle.bodies.specs.declared.Searches.{Searches}
+use Rattle.bodies.specs.declared.Sought.{Sought}
+use Rattle.bodies.specs.declared.Sought.TheVariants.{Ongoing, Unknown}
 
-abbrev pub Pending : List ℕ → ℕ → Type 0
-Pending m i = get_or m (2 + i) 0 ≡ 1
+abbrev pub Pending : List Sought → ℕ → Type 0
+Pending m i = get_or m i Unknown ≡ Ongoing
 
 -- the lists are long enough, and a chain goes on to smaller indices only
-pub record Fits (m links heads : List ℕ) : Type 0 where
-  pub room : length m ≡ 2050
+pub record Fits (m : List Sought) (links heads : List ℕ) : Type 0 where
+  pub room : length m ≡ 2048
   pub links_room : length links ≡ 2048
   pub heads_room : length heads ≡ 4097
   pub heads_most : (k : ℕ) → get_or heads k 0 ≤ 2048
   pub links_fall : (j : ℕ) → get_or links j 0 ≤ j
 
 -- the chain of each level holds what is pending there: its first is the last one, and what follows one is the last before it
-pub record Chain (level : ℕ → ℕ) (m links heads : List ℕ) : Type 0 where
+pub record Chain (level : ℕ → ℕ) (m : List Sought) (links heads : List ℕ) : Type 0 where
   pub inside : (i : ℕ) → Pending m i → level i ≤ 4096
   pub heads_last : (i : ℕ) → Pending m i → i < get_or heads (level i) 0
   pub heads_is : (k j : ℕ) → get_or heads k 0 ≡ suc j → Pending m j × (level j ≡ k)
   pub links_last : (i j : ℕ) → Pending m i → Pending m j → i < j → level i ≡ level j → i < get_or links j 0
   pub links_is : (j k : ℕ) → Pending m j → get_or links j 0 ≡ suc k → Pending m k × (level k ≡ level j)
 
--- one number is set
-module _ (m : List ℕ) (j v : ℕ) where
-  pub set_there : 2 + j < length m → get_or (set m (2 + j) v) (2 + j) 0 ≡ v
-  set_there h = get_or-set_same m (2 + j) v 0 h
+-- the same of the searches as a struct holds them
+abbrev pub FitIn : Searches → Type 0
+FitIn x = Fits x.told x.links x.heads
 
-  pub set-elsewhere : (i : ℕ) → i ≢ j → get_or (set m (2 + j) v) (2 + i) 0 ≡ get_or m (2 + i) 0
-  set-elsewhere i n = get_or-set_other m (2 + j) (2 + i) v 0 (λ e. n (omega (arith, e)))
+abbrev pub Chained : (ℕ → ℕ) → Searches → Type 0
+Chained level x = Chain level x.told x.links x.heads
 
-  -- what is still pending where the number is not 1
-  pub still-pending : 2 + j < length m → v ≢ 1 → (i : ℕ) → Pending (set m (2 + j) v) i → Pending m i × (i ≢ j)
+-- what is told of one search is set
+module _ (m : List Sought) (j : ℕ) (v : Sought) where
+  pub set_there : j < length m → get_or (set m j v) j Unknown ≡ v
+  set_there h = get_or-set_same m j v Unknown h
+
+  pub set-elsewhere : (i : ℕ) → i ≢ j → get_or (set m j v) i Unknown ≡ get_or m i Unknown
+  set-elsewhere i n = get_or-set_other m j i v Unknown n
+
+  -- what is still pending where something else is told
+  pub still-pending : j < length m → v ≢ Ongoing → (i : ℕ) → Pending (set m j v) i → Pending m i × (i ≢ j)
   still-pending h n i p =
       elim (same_or_not i j) [
-        | inl e ↦ absurd (n (sym (set_there h) ∙ subst (λ k. get_or (set m (2 + j) v) (2 + k) 0 ≡ 1) e p))
+        | inl e ↦ absurd (n (sym (set_there h) ∙ subst (λ k. get_or (set m j v) k Unknown ≡ Ongoing) e p))
         | inr e ↦ (sym (set-elsewhere i e) ∙ p, e)
       ]
 
 -- the first of a chain is taken off it
-module _ (m links heads : List ℕ) (k j v : ℕ) (f : Fits m links heads) (first : get_or heads k 0 ≡ suc j) (small : k ≤ 4096) where
+module _ (m : List Sought) (links heads : List ℕ) (k j : ℕ) (v : Sought) (f : Fits m links heads) (first : get_or heads k 0 ≡ suc j) (small : k ≤ 4096) where
   pub first_small : j < 2048
   first_small = omega (arith, first, f.heads_most k)
 
@@ -53,10 +63,10 @@ module _ (m links heads : List ℕ) (k j v : ℕ) (f : Fits m links heads) (firs
   rest-elsewhere : (l : ℕ) → l ≢ k → get_or rest l 0 ≡ get_or heads l 0
   rest-elsewhere l n = get_or-set_other heads k l (get_or links j 0) 0 n
 
-  pub popped-fits : Fits (set m (2 + j) v) links (set heads k (get_or links j 0))
+  pub popped-fits : Fits (set m j v) links (set heads k (get_or links j 0))
   popped-fits =
       record {
-        room = length-set m (2 + j) v ∙ f.room;
+        room = length-set m j v ∙ f.room;
         links_room = f.links_room;
         heads_room = length-set heads k (get_or links j 0) ∙ f.heads_room;
         heads_most =
@@ -67,11 +77,11 @@ module _ (m links heads : List ℕ) (k j v : ℕ) (f : Fits m links heads) (firs
         links_fall = f.links_fall;
       }
 
-module _ (level : ℕ → ℕ) (m links heads : List ℕ) (k j v : ℕ) (f : Fits m links heads) (c : Chain level m links heads) (first : get_or heads k 0 ≡ suc j) (small : k ≤ 4096) (other : v ≢ 1) where
-  still : (i : ℕ) → Pending (set m (2 + j) v) i → Pending m i × (i ≢ j)
+module _ (level : ℕ → ℕ) (m : List Sought) (links heads : List ℕ) (k j : ℕ) (v : Sought) (f : Fits m links heads) (c : Chain level m links heads) (first : get_or heads k 0 ≡ suc j) (small : k ≤ 4096) (other : v ≢ Ongoing) where
+  still : (i : ℕ) → Pending (set m j v) i → Pending m i × (i ≢ j)
   still = still-pending m j v (omega (arith, first_small m links heads k j v f first small, f.room)) other
 
-  keeps : (i : ℕ) → i ≢ j → Pending m i → Pending (set m (2 + j) v) i
+  keeps : (i : ℕ) → i ≢ j → Pending m i → Pending (set m j v) i
   keeps i n p = set-elsewhere m j v i n ∙ p
 
   abbrev others : List ℕ
@@ -83,7 +93,7 @@ module _ (level : ℕ → ℕ) (m links heads : List ℕ) (k j v : ℕ) (f : Fit
   others-elsewhere : (l : ℕ) → l ≢ k → get_or others l 0 ≡ get_or heads l 0
   others-elsewhere = rest-elsewhere m links heads k j v f first small
 
-  pub popped : Chain level (set m (2 + j) v) links (set heads k (get_or links j 0))
+  pub popped : Chain level (set m j v) links (set heads k (get_or links j 0))
   popped =
       record {
         inside = λ i p. c.inside i (still i p).0;
@@ -95,7 +105,7 @@ module _ (level : ℕ → ℕ) (m links heads : List ℕ) (k j v : ℕ) (f : Fit
         at_level : level j ≡ k
         at_level = (c.heads_is k j first).1
 
-        last : (i : ℕ) → Pending (set m (2 + j) v) i → i < get_or others (level i) 0
+        last : (i : ℕ) → Pending (set m j v) i → i < get_or others (level i) 0
         last i p =
             elim (same_or_not (level i) k) [
               | inl e ↦
@@ -107,7 +117,7 @@ module _ (level : ℕ → ℕ) (m links heads : List ℕ) (k j v : ℕ) (f : Fit
               | inr e ↦ omega (arith, others-elsewhere (level i) e, c.heads_last i (still i p).0)
             ]
 
-        is : (l i : ℕ) → get_or others l 0 ≡ suc i → Pending (set m (2 + j) v) i × (level i ≡ l)
+        is : (l i : ℕ) → get_or others l 0 ≡ suc i → Pending (set m j v) i × (level i ≡ l)
         is l i h =
             elim (same_or_not l k) [
               | inl e ↦
@@ -119,7 +129,7 @@ module _ (level : ℕ → ℕ) (m links heads : List ℕ) (k j v : ℕ) (f : Fit
                   (keeps i (λ z. e (sym q.1 ∙ ap level z ∙ at_level)) q.0, q.1))
             ]
 
-        linked : (a b : ℕ) → Pending (set m (2 + j) v) a → get_or links a 0 ≡ suc b → Pending (set m (2 + j) v) b × (level b ≡ level a)
+        linked : (a b : ℕ) → Pending (set m j v) a → get_or links a 0 ≡ suc b → Pending (set m j v) b × (level b ≡ level a)
         linked a b p h =
             let q = still a p in
             let l = c.links_is a b q.0 h in (
@@ -131,9 +141,9 @@ module _ (level : ℕ → ℕ) (m links heads : List ℕ) (k j v : ℕ) (f : Fit
             )
 
 -- an index behind all that are pending is put before the chain of its level
-module _ (level : ℕ → ℕ) (m links heads : List ℕ) (k i : ℕ) (f : Fits m links heads) (c : Chain level m links heads) (behind : (j : ℕ) → Pending m j → j < i) (at_level : level i ≡ k) (small : k ≤ 4096) (within : i < 2048) where
-  abbrev m' : List ℕ
-  m' = set m (2 + i) 1
+module _ (level : ℕ → ℕ) (m : List Sought) (links heads : List ℕ) (k i : ℕ) (f : Fits m links heads) (c : Chain level m links heads) (behind : (j : ℕ) → Pending m j → j < i) (at_level : level i ≡ k) (small : k ≤ 4096) (within : i < 2048) where
+  abbrev m' : List Sought
+  m' = set m i Ongoing
 
   abbrev links' : List ℕ
   links' = set links i (get_or heads k 0)
@@ -142,13 +152,13 @@ module _ (level : ℕ → ℕ) (m links heads : List ℕ) (k i : ℕ) (f : Fits 
   heads' = set heads k (i + 1)
 
   now_pending : Pending m' i
-  now_pending = set_there m i 1 (omega (arith, within, f.room))
+  now_pending = set_there m i Ongoing (omega (arith, within, f.room))
 
   earlier : (j : ℕ) → j ≢ i → Pending m' j → Pending m j
-  earlier j n p = sym (set-elsewhere m i 1 j n) ∙ p
+  earlier j n p = sym (set-elsewhere m i Ongoing j n) ∙ p
 
   later : (j : ℕ) → Pending m j → Pending m' j
-  later j p = set-elsewhere m i 1 j (λ e. omega (arith, e, behind j p)) ∙ p
+  later j p = set-elsewhere m i Ongoing j (λ e. omega (arith, e, behind j p)) ∙ p
 
   -- the first of the chain is before the index
   first-before : get_or heads k 0 ≤ i
@@ -169,10 +179,10 @@ module _ (level : ℕ → ℕ) (m links heads : List ℕ) (k i : ℕ) (f : Fits 
   heads_elsewhere : (l : ℕ) → l ≢ k → get_or heads' l 0 ≡ get_or heads l 0
   heads_elsewhere l n = get_or-set_other heads k l (i + 1) 0 n
 
-  pub added-fits : Fits (set m (2 + i) 1) (set links i (get_or heads k 0)) (set heads k (i + 1))
+  pub added-fits : Fits (set m i Ongoing) (set links i (get_or heads k 0)) (set heads k (i + 1))
   added-fits =
       record {
-        room = length-set m (2 + i) 1 ∙ f.room;
+        room = length-set m i Ongoing ∙ f.room;
         links_room = length-set links i (get_or heads k 0) ∙ f.links_room;
         heads_room = length-set heads k (i + 1) ∙ f.heads_room;
         heads_most =
@@ -187,7 +197,7 @@ module _ (level : ℕ → ℕ) (m links heads : List ℕ) (k i : ℕ) (f : Fits 
             ];
       }
 
-  pub added : Chain level (set m (2 + i) 1) (set links i (get_or heads k 0)) (set heads k (i + 1))
+  pub added : Chain level (set m i Ongoing) (set links i (get_or heads k 0)) (set heads k (i + 1))
   added =
       record {
         inside = λ j p. elim (same_or_not j i) [ inl e ↦ (let h = ap level e in omega (arith, h, at_level, small)) | inr e ↦ c.inside j (earlier j e p) ];

@@ -1,10 +1,10 @@
 -- Bytes at which no search ends and no bracket is counted. The walk goes past them and nothing else changes.
-use Rattle.std.specs.Prelude.{ℕ, zero, suc, ◌+◌, ◌-◌, ◌≤◌, ◌<◌, ◌≡◌, ◌≢◌, List, length, get_or}
+use Rattle.std.specs.Prelude.{ℕ, zero, suc, ◌+◌, ◌-◌, ◌≤◌, ◌<◌, ◌≡◌, refl, ◌≢◌, List, length, get_or}
 use Rattle.std.proofs.Common.{subst, sym, inl, inr, arith, ne_eqb}
 use Rattle.text_rules.specs.Classes.{angle_close, angle_open, brace_open, semicolon, square_close, square_open}
 use Rattle.text_rules.specs.Search.{count_after}
-use Rattle.source_rules.specs.Finding.{angle_after}
-use Rattle.angles.specs.Angles.{angle_other, same_or_not, turned_same}
+use Rattle.angles.specs.Angles.{same_or_not}
+use Rattle.angles.proofs.Laws.{passes_other}
 use Rattle.bodies.specs.Walking.{Ends, Kept, ended-other, kept-further, level_of}
 use Rattle.bodies.specs.declared.Walk.{Walk}
 
@@ -19,7 +19,7 @@ quiet-more s from at q b i l h = elim (same_or_not i at) [ inl e ↦ subst (λ x
 
 -- the walk at another place
 abbrev pub moved : Walk → ℕ → Walk
-moved w at = record { at = at; next = w.next; height = w.height; opened = w.opened; closed = w.closed; pending = w.pending; low = w.low; high = w.high }
+moved w at = record { at = at; next = w.next; opened = w.opened; closed = w.closed; groups = w.groups; searches = w.searches }
 
 -- the walk behind quiet bytes
 abbrev pub Skips : List ℕ → (w v : Walk) → Type 0
@@ -29,25 +29,25 @@ count-quiet : (x b n : ℕ) → b ≢ x → n ≡ count_after x b n
 unfolding count_after
 count-quiet x b n h = rw (ne_eqb b x h)
 
-module _ (s starts m links heads counts sizes : List ℕ) where
-  quiet-byte : (w : Walk) → Kept s starts w m links heads counts sizes → w.at < length s → Quiet (get_or s w.at 0) → Kept s starts (moved w (w.at + 1)) m links heads counts sizes
+module _ (s starts : List ℕ) where
+  quiet-byte : (w : Walk) → Kept s starts w → w.at < length s → Quiet (get_or s w.at 0) → Kept s starts (moved w (w.at + 1))
   quiet-byte w k h q =
       let b = get_or s w.at 0 in
-      kept-further s starts w m links heads counts sizes k h m heads k.fits
-      (ended-other (level_of s starts) (Ends w counts (level_of s starts)) b w.at m links heads q.4 q.5 k.chain) counts sizes w.height
-      (turned_same w.next w.at counts sizes w.height k.stack (angle_after b) (w.at + 1) (omega arith) (angle_other b q.0 q.1)) w.opened w.closed w.pending
-      (count-quiet square_open b w.opened q.2) (count-quiet square_close b w.closed q.3) (omega arith)
+      kept-further s starts w k h w.searches (record { fit = k.fits; pending = omega arith; low = refl; high = refl })
+      (ended-other (level_of s starts) (Ends w (level_of s starts)) b w.at w.searches.told w.searches.links w.searches.heads q.4 q.5 k.chain) w.groups
+      (passes_other b w.next w.at w.groups k.stack q.0 q.1) w.opened w.closed
+      (count-quiet square_open b w.opened q.2) (count-quiet square_close b w.closed q.3)
 
-  quiet_bytes : (w : Walk) (n : ℕ) → Kept s starts w m links heads counts sizes → w.at + n ≤ length s → AllQuiet s w.at (w.at + n) → Kept s starts (moved w (w.at + n)) m links heads counts sizes
-  quiet_bytes w zero k h q = let e : w.at ≡ w.at + 0 = omega arith in subst (λ x. Kept s starts (moved w x) m links heads counts sizes) e k
+  quiet_bytes : (w : Walk) (n : ℕ) → Kept s starts w → w.at + n ≤ length s → AllQuiet s w.at (w.at + n) → Kept s starts (moved w (w.at + n))
+  quiet_bytes w zero k h q = let e : w.at ≡ w.at + 0 = omega arith in subst (λ x. Kept s starts (moved w x)) e k
   quiet_bytes w (suc n) k h q =
       let e : w.at + n + 1 ≡ w.at + suc n = omega arith in
-      subst (λ x. Kept s starts (moved w x) m links heads counts sizes) e
+      subst (λ x. Kept s starts (moved w x)) e
       (quiet-byte (moved w (w.at + n)) (quiet_bytes w n k (omega (arith, h)) (λ i l g. q i l (omega (arith, g)))) (omega (arith, h)) (q (w.at + n) (omega arith) (omega arith)))
 
-  pub kept-skipped : (w v : Walk) → Kept s starts w m links heads counts sizes → Skips s w v → Kept s starts v m links heads counts sizes
+  pub kept-skipped : (w v : Walk) → Kept s starts w → Skips s w v → Kept s starts v
   kept-skipped w v k e =
       let d : w.at + (v.at - w.at) ≡ v.at = omega (arith, e.1) in
-      subst (λ x. Kept s starts x m links heads counts sizes) (sym e.0)
-      (subst (λ x. Kept s starts (moved w x) m links heads counts sizes) d
+      subst (λ x. Kept s starts x) (sym e.0)
+      (subst (λ x. Kept s starts (moved w x)) d
       (quiet_bytes w (v.at - w.at) k (omega (arith, d, e.2)) (λ i l g. e.3 i l (omega (arith, g, d)))))

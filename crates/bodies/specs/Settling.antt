@@ -1,29 +1,36 @@
--- Pending searches that end, those for which a condition holds: each gets one number, and no other number changes.
-use Rattle.std.specs.Prelude.{ℕ, suc, ◌+◌, ◌≤◌, ◌<◌, ◌≡◌, refl, ◌⊎◌, ◌≢◌, List, get_or, set}
+-- Pending searches that end, those for which a condition holds: each gets one answer, and nothing else changes.
+use Rattle.std.specs.Prelude.{ℕ, suc, ◌≤◌, ◌<◌, ◌≡◌, refl, ◌⊎◌, ◌≢◌, List, get_or, set}
 use Rattle.std.proofs.Common.{subst, sym, ◌∙◌, inl, inr, arith}
 use Rattle.angles.specs.Angles.{same_or_not}
 use Rattle.bodies.specs.Chain.{Chain, Fits, Pending, popped, set-elsewhere, set_there}
+use Rattle.bodies.specs.declared.Searches.{Searches}
+use Rattle.bodies.specs.declared.Sought.{Sought}
+use Rattle.bodies.specs.declared.Sought.TheVariants.{Ongoing, Unknown}
 
 -- some of them have ended
-pub record Settling (level : ℕ → ℕ) (E : ℕ → Type 0) (number : ℕ) (m n links heads : List ℕ) : Type 0 where
+pub record Settling (level : ℕ → ℕ) (E : ℕ → Type 0) (told : Sought) (m n : List Sought) (links heads : List ℕ) : Type 0 where
   pub chain : Chain level n links heads
-  pub same : (i : ℕ) → (get_or n (2 + i) 0 ≡ get_or m (2 + i) 0) ⊎ (Pending m i × E i × (get_or n (2 + i) 0 ≡ number))
+  pub same : (i : ℕ) → (get_or n i Unknown ≡ get_or m i Unknown) ⊎ (Pending m i × E i × (get_or n i Unknown ≡ told))
 
 -- all of them have
-pub record Settled (level : ℕ → ℕ) (E : ℕ → Type 0) (number : ℕ) (m n links heads : List ℕ) : Type 0 where
-  pub done : Settling level E number m n links heads
+pub record Settled (level : ℕ → ℕ) (E : ℕ → Type 0) (told : Sought) (m n : List Sought) (links heads : List ℕ) : Type 0 where
+  pub done : Settling level E told m n links heads
   pub gone : (i : ℕ) → Pending n i → E i → ⊥
+
+-- the same of the searches as a struct holds them
+abbrev pub Settles : (level : ℕ → ℕ) → (E : ℕ → Type 0) → (told : Sought) → (x y : Searches) → Type 0
+Settles level E told x y = Settled level E told x.told y.told y.links y.heads
 
 -- those of a level that begin at a boundary or behind it
 abbrev pub Behind : (ℕ → ℕ) → (k boundary : ℕ) → ℕ → Type 0
 Behind level k boundary i = (level i ≡ k) × (boundary ≤ i)
 
-pub settling_none : (level : ℕ → ℕ) (E : ℕ → Type 0) (number : ℕ) (m links heads : List ℕ) → Chain level m links heads → Settling level E number m m links heads
-settling_none level E number m links heads c = record { chain = c; same = λ i. inl refl }
+pub settling_none : (level : ℕ → ℕ) (E : ℕ → Type 0) (told : Sought) (m : List Sought) (links heads : List ℕ) → Chain level m links heads → Settling level E told m m links heads
+settling_none level E told m links heads c = record { chain = c; same = λ i. inl refl }
 
 -- the first of a chain ends
-module _ (level : ℕ → ℕ) (E : ℕ → Type 0) (number : ℕ) (m n links heads : List ℕ) (k j : ℕ) (f : Fits n links heads) (t : Settling level E number m n links heads)
-    (first : get_or heads k 0 ≡ suc j) (small : k ≤ 4096) (other : number ≢ 1) (ends : E j) where
+module _ (level : ℕ → ℕ) (E : ℕ → Type 0) (told : Sought) (m n : List Sought) (links heads : List ℕ) (k j : ℕ) (f : Fits n links heads) (t : Settling level E told m n links heads)
+    (first : get_or heads k 0 ≡ suc j) (small : k ≤ 4096) (other : told ≢ Ongoing) (ends : E j) where
   was_pending : Pending m j
   was_pending =
       elim (t.same j) [
@@ -31,27 +38,27 @@ module _ (level : ℕ → ℕ) (E : ℕ → Type 0) (number : ℕ) (m n links he
         | inr e ↦ e.0
       ]
 
-  pub settling_more : Settling level E number m (set n (2 + j) number) links (set heads k (get_or links j 0))
+  pub settling_more : Settling level E told m (set n j told) links (set heads k (get_or links j 0))
   settling_more =
       record {
-        chain = popped level n links heads k j number f t.chain first small other;
+        chain = popped level n links heads k j told f t.chain first small other;
         same =
             λ i. elim (same_or_not i j) [
               | inl e ↦
-                  subst (λ x. (get_or (set n (2 + j) number) (2 + x) 0 ≡ get_or m (2 + x) 0) ⊎ (Pending m x × E x × (get_or (set n (2 + j) number) (2 + x) 0 ≡ number))) (sym e)
-                  (inr (was_pending, ends, set_there n j number (omega (arith, first, f.heads_most k, f.room))))
+                  subst (λ x. (get_or (set n j told) x Unknown ≡ get_or m x Unknown) ⊎ (Pending m x × E x × (get_or (set n j told) x Unknown ≡ told))) (sym e)
+                  (inr (was_pending, ends, set_there n j told (omega (arith, first, f.heads_most k, f.room))))
               | inr e ↦
                   elim (t.same i) [
-                    | inl h ↦ inl (set-elsewhere n j number i e ∙ h)
-                    | inr h ↦ inr (h.0, h.1, set-elsewhere n j number i e ∙ h.2)
+                    | inl h ↦ inl (set-elsewhere n j told i e ∙ h)
+                    | inr h ↦ inr (h.0, h.1, set-elsewhere n j told i e ∙ h.2)
                   ]
             ];
       }
 
 -- where the first of the level's chain is before the boundary none is left
-pub settled-level : (level : ℕ → ℕ) (number k boundary : ℕ) (m n links heads : List ℕ) → Settling level (Behind level k boundary) number m n links heads → get_or heads k 0 ≤ boundary
-    → Settled level (Behind level k boundary) number m n links heads
-settled-level level number k boundary m n links heads t h =
+pub settled-level : (level : ℕ → ℕ) (told : Sought) (k boundary : ℕ) (m n : List Sought) (links heads : List ℕ) → Settling level (Behind level k boundary) told m n links heads → get_or heads k 0 ≤ boundary
+    → Settled level (Behind level k boundary) told m n links heads
+settled-level level told k boundary m n links heads t h =
     record {
       done = t;
       gone =
@@ -61,9 +68,9 @@ settled-level level number k boundary m n links heads t h =
     }
 
 -- the same, told by another condition
-pub settled_as : (level : ℕ → ℕ) (E F : ℕ → Type 0) (number : ℕ) (m n links heads : List ℕ) → Settled level E number m n links heads
-    → ((i : ℕ) → E i → F i) → ((i : ℕ) → Pending n i → F i → E i) → Settled level F number m n links heads
-settled_as level E F number m n links heads t to from =
+pub settled_as : (level : ℕ → ℕ) (E F : ℕ → Type 0) (told : Sought) (m n : List Sought) (links heads : List ℕ) → Settled level E told m n links heads
+    → ((i : ℕ) → E i → F i) → ((i : ℕ) → Pending n i → F i → E i) → Settled level F told m n links heads
+settled_as level E F told m n links heads t to from =
     record {
       done =
           record {
@@ -74,5 +81,5 @@ settled_as level E F number m n links heads t to from =
     }
 
 -- where none ends nothing changes
-pub settled-none : (level : ℕ → ℕ) (E : ℕ → Type 0) (number : ℕ) (m links heads : List ℕ) → Chain level m links heads → ((i : ℕ) → Pending m i → E i → ⊥) → Settled level E number m m links heads
-settled-none level E number m links heads c h = record { done = settling_none level E number m links heads c; gone = h }
+pub settled-none : (level : ℕ → ℕ) (E : ℕ → Type 0) (told : Sought) (m : List Sought) (links heads : List ℕ) → Chain level m links heads → ((i : ℕ) → Pending m i → E i → ⊥) → Settled level E told m m links heads
+settled-none level E told m links heads c h = record { done = settling_none level E told m links heads c; gone = h }

@@ -12,6 +12,11 @@ use Rattle.source_rules.proofs.WalkSteps.{partner_close, partner-end, partner-fo
 use Rattle.windows.specs.Window.{Noted}
 use Rattle.chunks.specs.Passing.{TellsDepth}
 use Rattle.bodies.specs.Bodies.{Rising}
+use Rattle.bodies.specs.declared.Sought.{Sought}
+use Rattle.bodies.specs.declared.Sought.TheVariants.{Brace, Nothing}
+use Rattle.windows.specs.Notes.{first_of, second_of, set_pair}
+use Rattle.windows.specs.declared.Note.{Note}
+use Rattle.windows.specs.declared.Note.TheVariants.{Broken, Closed, Whole}
 use Rattle.parts.specs.declared.Pass.{Pass}
 use Rattle.parts.specs.Told.{Told, body_behind, never, no-brace, no_end, sought_from, told_zero}
 
@@ -40,15 +45,43 @@ pub record Order (s owners starts : List ℕ) (from many at ended : ℕ) : Type 
   pub rising : (j k : ℕ) → j < k → k < ended → get_or starts j 0 < get_or starts k 0
 
 -- how far the pass over the text has come
-pub record Passed (s opens owners starts : List ℕ) (from many : ℕ) (p : Pass) : Type 0 where
+pub record Passed (s : List ℕ) (from many : ℕ) (p : Pass) : Type 0 where
   pub inside : p.at ≤ length s
   pub few : p.high + p.ended ≤ many
   pub inner-most : p.inner ≤ p.at
-  pub waiting : Waiting s opens from many p.at p.high p.inner
-  pub order : Order s owners starts from many p.at p.ended
+  pub waiting : Waiting s p.opens from many p.at p.high p.inner
+  pub order : Order s p.owners p.starts from many p.at p.ended
 
-abbrev pub pass_at : (at high ended inner : ℕ) → Pass
-pass_at at high ended inner = record { at = at; high = high; ended = ended; inner = inner }
+-- the same inside the part, where there is one bracket for each byte at most
+pub record Within (s : List ℕ) (from many : ℕ) (p : Pass) : Type 0 where
+  pub begun : from ≤ p.at
+  pub before : p.at + 1 ≤ from + many
+  pub few : p.high + p.ended + from ≤ p.at + 1
+  pub none-inner : p.inner ≡ 0
+  pub opens_room : length p.opens ≡ 2048
+  pub waiting : Waiting s p.opens from many p.at p.high 0
+  pub order : Order s p.owners p.starts from many p.at p.ended
+
+-- the pass at another place, with so many brackets open inside those that wait
+abbrev pub moved : Pass → (at inner : ℕ) → Pass
+moved p at inner = record { at = at; inner = inner; opens = p.opens; high = p.high; owners = p.owners; starts = p.starts; ended = p.ended }
+
+-- with one more that waits
+abbrev pub opened : Pass → (index : ℕ) → Pass
+opened p index = record { at = p.at; inner = p.inner; opens = set p.opens p.high index; high = p.high + 1; owners = p.owners; starts = p.starts; ended = p.ended }
+
+-- where the one on top is closed
+abbrev pub closed : Pass → Pass
+closed p =
+    record {
+      at = p.at;
+      inner = p.inner;
+      opens = p.opens;
+      high = p.high - 1;
+      owners = set p.owners p.ended (get_or p.opens (p.high - 1) 0);
+      starts = set p.starts p.ended p.at;
+      ended = p.ended + 1;
+    }
 
 -- the numbers of the part are noted, and each tells what it must
 pub record Window (s : List ℕ) (from many : ℕ) (m : List ℕ) : Type 0 where
@@ -56,15 +89,11 @@ pub record Window (s : List ℕ) (from many : ℕ) (m : List ℕ) : Type 0 where
   pub begins : get_or m 0 0 ≡ from
   pub places : get_or m 1 0 ≡ many
 
--- two numbers of a place are set
-abbrev pub set_pair : List ℕ → (i first second : ℕ) → List ℕ
-set_pair m i first second = set (set m (2 + i) first) (2050 + i) second
-
--- the numbers of a bracket that is closed before a place, by what the search for a body that begins there finds
-pub data Closes (found start first second : ℕ) : Type 0 where
-  no_body : found ≡ 2 → first ≡ never → Closes found start first second
-  not_known : first ≡ start → second ≡ 0 → Closes found start first second
-  body-there : 3 ≤ found → first ≡ start → second ≡ found - 2 → Closes found start first second
+-- what is noted of a bracket that is closed before a place, by what the search for a body that begins there finds
+pub data Closes (found : Sought) (start : ℕ) (n : Note) : Type 0 where
+  no_body : found ≡ Nothing → n ≡ Broken → Closes found start n
+  not_known : n ≡ Closed (start - 1) → Closes found start n
+  body-there : (p : ℕ) → found ≡ Brace p → n ≡ Whole (start - 1) p → Closes found start n
 
 -- the numbers of the first places of the part are 0
 pub record Begun (from many done : ℕ) (m : List ℕ) : Type 0 where
@@ -254,50 +283,125 @@ order-met s opens owners starts from many at high inner ended w o h e z i room =
 -- ---- the pass
 
 -- further on, where the same brackets wait
-passed_on : {s opens owners starts : List ℕ} {from many at high ended inner to d : ℕ} → Passed s opens owners starts from many (pass_at at high ended inner) → at ≤ to → to ≤ length s
-    → d ≤ to → Waiting s opens from many to high d → Passed s opens owners starts from many (pass_at to high ended d)
-passed_on {s} {opens} {owners} {starts} {from} {many} {at} {high} {ended} {inner} {to} w h i l v =
-    record { inside = i; few = w.few; inner-most = l; waiting = v; order = order-later s owners starts from many at to ended w.order h }
+passed_on : {s : List ℕ} {from many : ℕ} {p : Pass} {to d : ℕ} → Passed s from many p → p.at ≤ to → to ≤ length s → d ≤ to → Waiting s p.opens from many to p.high d
+    → Passed s from many (moved p to d)
+passed_on {s} {from} {many} {p} {to} {d} w h i l v =
+    record { inside = i; few = w.few; inner-most = l; waiting = v; order = order-later s p.owners p.starts from many p.at to p.ended w.order h }
 
 -- one byte further
-module _ {s opens owners starts : List ℕ} {from many at high ended inner : ℕ} (w : Passed s opens owners starts from many (pass_at at high ended inner)) (h : at < length s) where
-  pub passed-other : get_or s at 0 ≢ round_open → get_or s at 0 ≢ round_close → Passed s opens owners starts from many (pass_at (at + 1) high ended inner)
-  passed-other o c = passed_on w (omega arith) (omega arith) (omega (arith, w.inner-most)) (waiting-other s opens from many at high inner w.waiting h o c)
+module _ (s : List ℕ) (from many : ℕ) (p : Pass) (w : Passed s from many p) (h : p.at < length s) where
+  pub passed_other : get_or s p.at 0 ≢ round_open → get_or s p.at 0 ≢ round_close → Passed s from many (moved p (p.at + 1) p.inner)
+  passed_other o c = passed_on w (omega arith) (omega arith) (omega (arith, w.inner-most)) (waiting-other s p.opens from many p.at p.high p.inner w.waiting h o c)
 
-  pub passed_open : get_or s at 0 ≡ round_open → Passed s opens owners starts from many (pass_at (at + 1) high ended (inner + 1))
-  passed_open e = passed_on w (omega arith) (omega arith) (omega (arith, w.inner-most)) (waiting_open s opens from many at high inner w.waiting h e)
+  pub passed_open : get_or s p.at 0 ≡ round_open → Passed s from many (moved p (p.at + 1) (p.inner + 1))
+  passed_open e = passed_on w (omega arith) (omega arith) (omega (arith, w.inner-most)) (waiting_open s p.opens from many p.at p.high p.inner w.waiting h e)
 
-  pub passed_close : get_or s at 0 ≡ round_close → 0 < inner → Passed s opens owners starts from many (pass_at (at + 1) high ended (inner - 1))
-  passed_close e i = passed_on w (omega arith) (omega arith) (omega (arith, w.inner-most)) (waiting_close s opens from many at high inner w.waiting h e i)
+  pub passed_close : get_or s p.at 0 ≡ round_close → 0 < p.inner → Passed s from many (moved p (p.at + 1) (p.inner - 1))
+  passed_close e i = passed_on w (omega arith) (omega arith) (omega (arith, w.inner-most)) (waiting_close s p.opens from many p.at p.high p.inner w.waiting h e i)
 
   -- the one on top has its partner
-  pub passed-met : get_or s at 0 ≡ round_close → inner ≤ 0 → 0 < high → many ≤ 2048
-      → Passed s opens (set owners ended (get_or opens (high - 1) 0)) (set starts ended (at + 1)) from many (pass_at (at + 1) (high - 1) (ended + 1) inner)
-  passed-met e l i room =
-      let z : inner ≡ 0 = omega arith in
+  pub passed_met : get_or s p.at 0 ≡ round_close → p.inner ≡ 0 → 0 < p.high → many ≤ 2048 → Passed s from many (closed (moved p (p.at + 1) p.inner))
+  passed_met e z i room =
       record {
         inside = omega arith;
         few = omega (arith, w.few);
         inner-most = omega arith;
-        waiting = waiting_pop s opens from many at high inner w.waiting h e z;
-        order = order-met s opens owners starts from many at high inner ended w.waiting w.order h e z i (omega (arith, w.few));
+        waiting = waiting_pop s p.opens from many p.at p.high p.inner w.waiting h e z;
+        order = order-met s p.opens p.owners p.starts from many p.at p.high p.inner p.ended w.waiting w.order h e z i (omega (arith, w.few));
       }
 
 -- a chunk further
-pub passed_chunk : {s opens owners starts : List ℕ} {from many at high ended inner d : ℕ} → Passed s opens owners starts from many (pass_at at high ended inner) → TellsDepth s at inner (Some d)
-    → Passed s opens owners starts from many (pass_at (at + 4096) high ended d)
-passed_chunk {s} {opens} {owners} {starts} {from} {many} {at} {high} {ended} {inner} {d} w e =
-    passed_on w (omega arith) e.0 e.1 (waiting-past s opens from many at high inner d w.waiting e)
+pub passed_chunk : (s : List ℕ) (from many : ℕ) (p : Pass) (d : ℕ) → Passed s from many p → TellsDepth s p.at p.inner (Some d) → Passed s from many (moved p (p.at + 4096) d)
+passed_chunk s from many p d w e = passed_on w (omega arith) e.0 e.1 (waiting-past s p.opens from many p.at p.high p.inner d w.waiting e)
+
+-- inside the part, at its first bracket
+pub within-first : (s : List ℕ) (from many : ℕ) (p : Pass) → 1 ≤ many → p.at ≡ from → p.inner ≡ 0 → p.high ≡ 1 → p.ended ≡ 0 → length p.opens ≡ 2048 → length p.owners ≡ 2048 → length p.starts ≡ 2048 → get_or p.opens 0 0 ≡ 0
+    → Within s from many p
+within-first s from many p h at inner high ended o w t z =
+    record {
+      begun = omega (arith, at);
+      before = omega (arith, at);
+      few = omega (arith, at, high, ended);
+      none-inner = inner;
+      opens_room = o;
+      waiting = rw (at, high) (waiting-first s p.opens from many h z);
+      order = rw (at, ended) (order-none s p.owners p.starts from many from w t);
+    }
+
+-- one byte further inside it
+module _ (s : List ℕ) (from many : ℕ) (p : Pass) (w : Within s from many p) (h : p.at < length s) (i : p.at + 1 < from + many) where
+  later : Order s p.owners p.starts from many (p.at + 1) p.ended
+  later = order-later s p.owners p.starts from many p.at (p.at + 1) p.ended w.order (omega arith)
+
+  pub within_open : get_or s p.at 0 ≡ round_open → many ≤ 2048 → Within s from many (opened (moved p (p.at + 1) p.inner) (p.at + 1 - from))
+  within_open e room =
+      record {
+        begun = omega (arith, w.begun);
+        before = omega (arith, i);
+        few = omega (arith, w.few);
+        none-inner = w.none-inner;
+        opens_room = length-set p.opens p.high (p.at + 1 - from) ∙ w.opens_room;
+        waiting = waiting_push s p.opens from many p.at p.high w.waiting h e (omega (arith, w.few, w.opens_room, room, i)) w.begun (omega (arith, w.begun, i));
+        order = later;
+      }
+
+  pub within_met : get_or s p.at 0 ≡ round_close → 0 < p.high → many ≤ 2048 → Within s from many (closed (moved p (p.at + 1) p.inner))
+  within_met e any room =
+      record {
+        begun = omega (arith, w.begun);
+        before = omega (arith, i);
+        few = omega (arith, w.few);
+        none-inner = w.none-inner;
+        opens_room = w.opens_room;
+        waiting = waiting_pop s p.opens from many p.at p.high 0 w.waiting h e refl;
+        order = order-met s p.opens p.owners p.starts from many p.at p.high 0 p.ended w.waiting w.order h e refl any (omega (arith, w.few, room, i));
+      }
+
+  -- a bracket from before the part is closed
+  pub within_stray : get_or s p.at 0 ≡ round_close → p.high ≡ 0 → Within s from many (moved p (p.at + 1) p.inner)
+  within_stray e z =
+      let same : p.high - 1 ≡ p.high = omega (arith, z) in
+      record {
+        begun = omega (arith, w.begun);
+        before = omega (arith, i);
+        few = omega (arith, w.few);
+        none-inner = w.none-inner;
+        opens_room = w.opens_room;
+        waiting = subst (λ n. Waiting s p.opens from many (p.at + 1) n 0) same (waiting_pop s p.opens from many p.at p.high 0 w.waiting h e refl);
+        order = later;
+      }
+
+  pub within_other : get_or s p.at 0 ≢ round_open → get_or s p.at 0 ≢ round_close → Within s from many (moved p (p.at + 1) p.inner)
+  within_other o c =
+      record {
+        begun = omega (arith, w.begun);
+        before = omega (arith, i);
+        few = omega (arith, w.few);
+        none-inner = w.none-inner;
+        opens_room = w.opens_room;
+        waiting = waiting-other s p.opens from many p.at p.high 0 w.waiting h o c;
+        order = later;
+      }
+
+-- at its end
+pub within-passed : (s : List ℕ) (from many : ℕ) (p : Pass) → Within s from many p → from + many ≤ length s → Passed s from many p
+within-passed s from many p w l =
+    record {
+      inside = omega (arith, w.before, l);
+      few = omega (arith, w.few, w.before);
+      inner-most = omega (arith, w.none-inner);
+      waiting = rw w.none-inner w.waiting;
+      order = w.order;
+    }
 
 -- where none waits, or the text ends, those that wait have no partner
-pub passed-end : {s opens owners starts : List ℕ} {from many : ℕ} {p : Pass} → Passed s opens owners starts from many p → (p.high ≡ 0) ⊎ (length s ≤ p.at)
-    → (p.high + p.ended ≤ many) × Unmet s opens from many p.high × Order s owners starts from many (length s) p.ended
-passed-end {s} {opens} {owners} {starts} {from} {many} {p} w end = (
-  w.few,
-  ⊎_elim (λ z. record { within = w.waiting.within; nowhere = λ k l. absurd (omega (arith, z, l)) })
-      (waiting-end s opens from many p.at p.high p.inner w.waiting) end,
-  order-later s owners starts from many p.at (length s) p.ended w.order w.inside,
-)
+pub passed_unmet : (s : List ℕ) (from many : ℕ) (p : Pass) → Passed s from many p → (p.high ≡ 0) ⊎ (length s ≤ p.at) → Unmet s p.opens from many p.high
+passed_unmet s from many p w end =
+    ⊎_elim (λ z. record { within = w.waiting.within; nowhere = λ k l. absurd (omega (arith, z, l)) })
+    (waiting-end s p.opens from many p.at p.high p.inner w.waiting) end
+
+pub passed_order : (s : List ℕ) (from many : ℕ) (p : Pass) → Passed s from many p → Order s p.owners p.starts from many (length s) p.ended
+passed_order s from many p w = order-later s p.owners p.starts from many p.at (length s) p.ended w.order w.inside
 
 -- the places behind their partners rise
 pub order-rising : (s owners starts : List ℕ) (from many ended : ℕ) → Order s owners starts from many (length s) ended → Rising s starts ended
@@ -306,33 +410,36 @@ order-rising s owners starts from many ended o = record { rising = o.rising; ins
 -- ---- the numbers
 
 -- a bracket that is not closed
-pub told-unmet : (s : List ℕ) (at first second : ℕ) → sought_from s at 0 ≡ none → first ≡ never → Told s at first second
-told-unmet s at first second e n = record { there = λ z m. absurd (m n); nowhere = λ q. no_end e; brace = λ z m. absurd (m n) }
+pub told-unmet : (s : List ℕ) (at : ℕ) → sought_from s at 0 ≡ none → Told s at (first_of Broken) (second_of Broken)
+told-unmet s at e = record { there = λ z m. absurd (m refl); nowhere = λ q. no_end e; brace = λ z m. absurd (m refl) }
 
 -- a bracket that is closed before a place: the place, and where a body begins, or that none does
-module _ (s : List ℕ) (from many index start found first second : ℕ) (c : ClosedBefore s from many index start) (h : start < never) where
+module _ (s : List ℕ) (from many index start : ℕ) (found : Sought) (c : ClosedBefore s from many index start) (h : start < never) where
   back : start ≡ start - 1 + 1
   back = omega (arith, c.least)
 
-  started : first ≡ start → (second ≢ 0 → body_at 0 0 0 start (drop start s) ≡ some (second - 1)) → Told s (from + index) first second
-  started e b =
+  started : (first second : ℕ) → first ≡ start - 1 + 1 → (second ≢ 0 → body_at 0 0 0 start (drop start s) ≡ some (second - 1)) → Told s (from + index) first second
+  started first second e b =
       let same : start - 1 ≡ first - 1 = omega (arith, e) in
       record {
         there = λ n m. c.partner-there ∙ ap some same;
-        nowhere = λ q. absurd (omega (arith, e, h, q));
+        nowhere = λ q. absurd (omega (arith, e, h, q, c.least));
         brace = λ n m z. subst (λ p. body_behind s p ≡ some (second - 1)) same (subst (λ p. body_at 0 0 0 p (drop p s) ≡ some (second - 1)) back (b z));
       }
 
-  pub told-closed : (found ≡ 2 → body_at 0 0 0 start (drop start s) ≡ none) → (3 ≤ found → body_at 0 0 0 start (drop start s) ≡ some (found - 3))
-      → Closes found start first second → Told s (from + index) first second
-  told-closed vain there (no_body two n) =
-      record {
-        there = λ z m. absurd (m n);
-        nowhere = λ q. no-brace (start - 1) c.partner-there (subst (λ p. body_at 0 0 0 p (drop p s) ≡ none) back (vain two));
-        brace = λ z m. absurd (m n);
-      }
-  told-closed vain there (not_known e z) = started e (λ n. absurd (n z))
-  told-closed vain there (body-there l e b) = let same : found - 3 ≡ second - 1 = omega (arith, b) in started e (λ n. there l ∙ ap some same)
+  pub told-closed : (found ≡ Nothing → body_at 0 0 0 start (drop start s) ≡ none) → ((p : ℕ) → found ≡ Brace p → body_at 0 0 0 start (drop start s) ≡ some p)
+      → (n : Note) → Closes found start n → Told s (from + index) (first_of n) (second_of n)
+  told-closed vain there n (no_body f e) =
+      rw e
+      (record {
+        there = λ z m. absurd (m refl);
+        nowhere = λ q. no-brace (start - 1) c.partner-there (subst (λ p. body_at 0 0 0 p (drop p s) ≡ none) back (vain f));
+        brace = λ z m. absurd (m refl);
+      })
+  told-closed vain there n (not_known e) = rw e (started (start - 1 + 1) 0 refl (λ z. absurd (z refl)))
+  told-closed vain there n (body-there p f e) =
+      let same : p ≡ p + 1 - 1 = omega arith in
+      rw e (started (start - 1 + 1) (p + 1) refl (λ z. there p f ∙ ap some same))
 
 -- the numbers of one place are set
 pub window-set : (s m : List ℕ) (from many i first second : ℕ) → Window s from many m → i < many → Told s (from + i) first second

@@ -2,316 +2,277 @@
 // the text tells them for all brackets of the part.
 #![tactic(auto)]
 
-ghost use Rattle.std.specs.Prelude.{◌≡◌, ◌+◌, ◌≤◌, ◌<◌, length};
+ghost use Rattle.std.specs.Prelude.{◌≡◌, ◌+◌, ◌-◌, ◌≤◌, ◌<◌, length};
 ghost use Rattle.chunks.specs.Table.{Summed};
 ghost use Rattle.bodies.specs.Bodies.{Finds};
-ghost use Rattle.parts.specs.Filling.{Begun, Closes, Order, Passed, Unmet, Window, set_pair};
+ghost use Rattle.parts.specs.Filling.{Begun, Closes, Order, Passed, Unmet, Window, Within, closed, opened};
 ghost use Rattle.parts.specs.Told.{Lent};
 
-use windows::Pair;
+use bodies::Sought;
+use windows::Note;
 
 // The first number of a bracket that has no partner, or one without a body behind it.
-pub const NEVER: u32 = 4294967295;
+pub const NEVER: u32 = windows::NEVER;
 
-// The numbers of the place with an index.
-fn note(m: &mut [u32; 4099], i: u16, p: Pair)
-    requires { (length m.old ≡ 4099) × (i < 2048) }
-    ensures { m.new ≡ set_pair m.old i p.first p.second }
-{
-    m[2 + i as usize] = p.first;
-    m[2050 + i as usize] = p.second;
+// A text, the sums of its chunks, and the part of it that is noted: where it begins, and how many places it has.
+#[derive(Clone, Copy)]
+struct Part<'a> {
+    text: &'a [u8],
+    sums: &'a [u16; 36865],
+    from: usize,
+    many: usize,
 }
 
-// A part of the text with no number noted yet, so none was of use.
-fn begin(from: usize, many: usize, m: &mut [u32; 4099])
-    requires { (length m.old ≡ 4099) × (many ≤ 2048) × (from < 4294967295) }
-    ensures { Begun from many many m.new }
-{
-    m[4098] = 0;
-    m[0] = from as u32;
-    m[1] = many as u32;
-    let mut k: usize = 0;
-    while k < many {
-        m[2 + k] = 0;
-        m[2050 + k] = 0;
-        k += 1;
+impl Part<'_> {
+    // The part with no number noted yet, so none was of use.
+    fn begin(&self, m: &mut [u32; 4099])
+        requires many { self.now.many ≤ 2048 }
+        requires from { self.now.from < 4294967295 }
+        ensures { Begun self.now.from self.now.many self.now.many m.new }
+    {
+        m[4098] = 0;
+        m[0] = self.from as u32;
+        m[1] = self.many as u32;
+        for k in 0..self.many {
+            windows::put(m, k, Note::Nothing);
+        }
     }
 }
 
-// How far the pass has come: the brackets that wait, those that are closed, and how many from behind the part are open.
-#[derive(Clone, Copy)]
+// How far the pass has come. The brackets that wait, the last one on top; how many from behind the part are open inside them; and those that are closed, in
+// this order, with the places behind their partners. Kept as arrays with their heights: a search takes no memory from the heap. The places stand in an
+// array of their own, since searches for bodies begin there.
+#[derive(Drop)]
 struct Pass {
     at: usize,
-    high: usize,
-    ended: usize,
     inner: usize,
+    opens: [u16; 2048],
+    high: usize,
+    owners: [u16; 2048],
+    starts: [u32; 2048],
+    ended: usize,
 }
 
-// The pass inside the part, up to its last byte. A closing bracket for which none waits closes one from before the part.
-fn inside(
-    s: &[u8],
-    from: usize,
-    many: usize,
-    opens: &mut [u16; 2048],
-    owners: &mut [u16; 2048],
-    starts: &mut [u32; 2048],
-) -> Pass
-    requires { (from + many ≤ length s.now)
-        × (1 ≤ many)
-        × (many ≤ 2048)
-        × (length s.now < 4294967295)
-        × (length opens.old ≡ 2048)
-        × (length owners.old ≡ 2048)
-        × (length starts.old ≡ 2048) }
-    ensures { (length opens.new ≡ 2048)
-        × Passed s.now opens.new owners.new starts.new from many result }
-{
-    opens[0] = 0;
-    let stop = from + many - 1;
-    let mut high: usize = 1;
-    let mut ended: usize = 0;
-    let mut at = from;
-    while at < stop {
-        let b = s[at];
-        at += 1;
-        if b == b'(' {
-            opens[high] = (at - from) as u16;
-            high += 1;
-        } else if b == b')' {
-            if 0 < high {
-                high -= 1;
-                owners[ended] = opens[high];
-                starts[ended] = at as u32;
-                ended += 1;
-            }
+impl Pass {
+    // The pass where the part begins: its first bracket waits.
+    fn new(p: &Part) -> Pass
+        requires { 1 ≤ p.now.many }
+        ensures at { result.at ≡ p.now.from }
+        ensures within { Within p.now.text.now p.now.from p.now.many result }
+    {
+        Pass {
+            at: p.from,
+            inner: 0,
+            opens: [0; 2048],
+            high: 1,
+            owners: [0; 2048],
+            starts: [0; 2048],
+            ended: 0,
         }
     }
-    Pass {
-        at,
-        high,
-        ended,
-        inner: 0,
-    }
-}
 
-// The pass on up to a place. It ends before that where no bracket waits any more.
-fn behind_before(
-    s: &[u8],
-    from: usize,
-    many: usize,
-    to: usize,
-    p: Pass,
-    opens: &[u16; 2048],
-    owners: &mut [u16; 2048],
-    starts: &mut [u32; 2048],
-) -> Pass
-    requires { (p.at < to)
-        × (to ≤ length s.now)
-        × (0 < p.high)
-        × (many ≤ 2048)
-        × (length s.now < 4294967295)
-        × (length opens.now ≡ 2048)
-        × Passed s.now opens.now owners.old starts.old from many p }
-    ensures { (p.at < result.at)
-        × Passed s.now opens.now owners.new starts.new from many result }
-{
-    let mut at = p.at;
-    let mut high = p.high;
-    let mut ended = p.ended;
-    let mut inner = p.inner;
-    while at < to {
-        let b = s[at];
-        at += 1;
-        if b == b'(' {
-            inner += 1;
-        } else if b == b')' {
-            if 0 < inner {
-                inner -= 1;
-            } else {
-                high -= 1;
-                owners[ended] = opens[high];
-                starts[ended] = at as u32;
-                ended += 1;
-                if high == 0 {
-                    return Pass {
-                        at,
-                        high,
-                        ended,
-                        inner,
-                    };
+    // A bracket waits.
+    fn open(&mut self, index: usize)
+        requires room { self.old.high < 2048 }
+        requires index { index < 2048 }
+        ensures { self.new ≡ opened self.old index }
+    {
+        self.opens[self.high] = index as u16;
+        self.high += 1;
+    }
+
+    // The bracket on top is closed before the place of the pass.
+    fn close(&mut self)
+        requires some { 0 < self.old.high }
+        requires high { self.old.high ≤ 2048 }
+        requires room { self.old.ended < 2048 }
+        requires place { self.old.at < 4294967296 }
+        ensures { self.new ≡ closed self.old }
+    {
+        self.high -= 1;
+        self.owners[self.ended] = self.opens[self.high];
+        self.starts[self.ended] = self.at as u32;
+        self.ended += 1;
+    }
+
+    // The pass past a byte inside the part. A closing bracket for which none waits closes one from before the part.
+    fn byte_inside(&mut self, p: &Part)
+        requires part { p.now.from + p.now.many ≤ length p.now.text.now }
+        requires many { p.now.many ≤ 2048 }
+        requires small { length p.now.text.now < 4294967295 }
+        requires before { self.old.at + 1 < p.now.from + p.now.many }
+        requires within { Within p.now.text.now p.now.from p.now.many self.old }
+        ensures at { self.new.at ≡ self.old.at + 1 }
+        ensures within { Within p.now.text.now p.now.from p.now.many self.new }
+    {
+        let b = p.text[self.at];
+        self.at += 1;
+        match b {
+            b'(' => self.open(self.at - p.from),
+            b')' => {
+                if 0 < self.high {
+                    self.close();
                 }
             }
+            _ => {}
         }
     }
-    Pass {
-        at,
-        high,
-        ended,
-        inner,
-    }
-}
 
-// The pass one turn on: past a chunk in which no bracket that waits is closed, or up to the next one.
-fn turn(
-    s: &[u8],
-    t: &[u16; 36865],
-    from: usize,
-    many: usize,
-    p: Pass,
-    opens: &[u16; 2048],
-    owners: &mut [u16; 2048],
-    starts: &mut [u32; 2048],
-) -> Pass
-    requires { (p.at < length s.now)
-        × (0 < p.high)
-        × (many ≤ 2048)
-        × (length s.now < 4294967295)
-        × (length opens.now ≡ 2048)
-        × Passed s.now opens.now owners.old starts.old from many p
-        × Summed s.now t.now }
-    ensures { (p.at < result.at)
-        × Passed s.now opens.now owners.new starts.new from many result }
-{
-    let past = chunks::round_past(s, t, p.at, p.inner);
-    let Some(inner) = past else {
-        let to = chunks::edge_after(p.at, s.len());
-        return behind_before(s, from, many, to, p, opens, owners, starts);
-    };
-    let mut q = p;
-    q.at += chunks::SIZE;
-    q.inner = inner;
-    q
-}
-
-// The pass on from the last byte of the part. It ends where no bracket waits any more, and those that wait at the end of the text have no partner.
-fn behind(
-    s: &[u8],
-    t: &[u16; 36865],
-    from: usize,
-    many: usize,
-    p: Pass,
-    opens: &[u16; 2048],
-    owners: &mut [u16; 2048],
-    starts: &mut [u32; 2048],
-) -> Pass
-    requires { (many ≤ 2048)
-        × (length s.now < 4294967295)
-        × (length opens.now ≡ 2048)
-        × Passed s.now opens.now owners.old starts.old from many p
-        × Summed s.now t.now }
-    ensures { (result.high + result.ended ≤ many)
-        × Unmet s.now opens.now from many result.high
-        × Order s.now owners.new starts.new from many (length s.now) result.ended }
-{
-    let mut q = p;
-    while q.at < s.len() {
-        if q.high == 0 {
-            return q;
+    // The pass inside the part, up to its last byte.
+    fn inside(&mut self, p: &Part)
+        requires part { p.now.from + p.now.many ≤ length p.now.text.now }
+        requires some { 1 ≤ p.now.many }
+        requires many { p.now.many ≤ 2048 }
+        requires small { length p.now.text.now < 4294967295 }
+        requires at { self.old.at ≡ p.now.from }
+        requires within { Within p.now.text.now p.now.from p.now.many self.old }
+        ensures { Passed p.now.text.now p.now.from p.now.many self.new }
+    {
+        for _place in 1..p.many {
+            self.byte_inside(p);
         }
-        q = turn(s, t, from, many, q, opens, owners, starts);
     }
-    q
+
+    // The pass past a byte behind the part.
+    fn byte_behind(&mut self, p: &Part)
+        requires inside { self.old.at < length p.now.text.now }
+        requires some { 0 < self.old.high }
+        requires many { p.now.many ≤ 2048 }
+        requires small { length p.now.text.now < 4294967295 }
+        requires passed { Passed p.now.text.now p.now.from p.now.many self.old }
+        ensures at { self.new.at ≡ self.old.at + 1 }
+        ensures passed { Passed p.now.text.now p.now.from p.now.many self.new }
+    {
+        let b = p.text[self.at];
+        self.at += 1;
+        match b {
+            b'(' => self.inner += 1,
+            b')' if 0 < self.inner => self.inner -= 1,
+            b')' => self.close(),
+            _ => {}
+        }
+    }
+
+    // The pass on up to a place. It ends before that where no bracket waits any more.
+    fn behind_before(&mut self, p: &Part, to: usize)
+        requires further { self.old.at < to }
+        requires to { to ≤ length p.now.text.now }
+        requires some { 0 < self.old.high }
+        requires many { p.now.many ≤ 2048 }
+        requires small { length p.now.text.now < 4294967295 }
+        requires passed { Passed p.now.text.now p.now.from p.now.many self.old }
+        ensures further { self.old.at < self.new.at }
+        ensures passed { Passed p.now.text.now p.now.from p.now.many self.new }
+    {
+        for _place in self.at..to {
+            self.byte_behind(p);
+            if self.high == 0 {
+                return;
+            }
+        }
+    }
+
+    // The pass one turn on: past a chunk in which no bracket that waits is closed, or up to the next one.
+    fn turn(&mut self, p: &Part)
+        requires inside { self.old.at < length p.now.text.now }
+        requires some { 0 < self.old.high }
+        requires many { p.now.many ≤ 2048 }
+        requires small { length p.now.text.now < 4294967295 }
+        requires passed { Passed p.now.text.now p.now.from p.now.many self.old }
+        requires summed { Summed p.now.text.now p.now.sums.now }
+        ensures further { self.old.at < self.new.at }
+        ensures passed { Passed p.now.text.now p.now.from p.now.many self.new }
+    {
+        match chunks::round_past(p.text, p.sums, self.at, self.inner) {
+            Some(inner) => {
+                self.at += chunks::SIZE;
+                self.inner = inner;
+            }
+            None => {
+                let to = chunks::edge_after(self.at, p.text.len());
+                self.behind_before(p, to);
+            }
+        }
+    }
+
+    // The pass on from the last byte of the part. It ends where no bracket waits any more, and those that wait at the end of the text have no partner.
+    fn behind(&mut self, p: &Part)
+        requires many { p.now.many ≤ 2048 }
+        requires small { length p.now.text.now < 4294967295 }
+        requires passed { Passed p.now.text.now p.now.from p.now.many self.old }
+        requires summed { Summed p.now.text.now p.now.sums.now }
+        ensures few { self.new.high + self.new.ended ≤ p.now.many }
+        ensures unmet { Unmet p.now.text.now self.new.opens p.now.from p.now.many self.new.high }
+        ensures order { Order p.now.text.now self.new.owners self.new.starts p.now.from p.now.many (length p.now.text.now) self.new.ended }
+    {
+        // Kept: a turn is a chunk or a part of one, so no `for` counts the turns.
+        while self.at < p.text.len() && 0 < self.high {
+            self.turn(p);
+        }
+    }
+
+    // The brackets that have no partner are noted.
+    fn note_unmet(&self, p: &Part, m: &mut [u32; 4099])
+        requires many { p.now.many ≤ 2048 }
+        requires high { self.now.high ≤ p.now.many }
+        requires unmet { Unmet p.now.text.now self.now.opens p.now.from p.now.many self.now.high }
+        requires window { Window p.now.text.now p.now.from p.now.many m.old }
+        ensures { Window p.now.text.now p.now.from p.now.many m.new }
+    {
+        for k in 0..self.high {
+            windows::put(m, usize::from(self.opens[k]), Note::Broken);
+        }
+    }
+
+    // The brackets that are closed are noted.
+    fn note_closed(&self, p: &Part, found: &[Sought; 2048], m: &mut [u32; 4099])
+        requires many { p.now.many ≤ 2048 }
+        requires ended { self.now.ended ≤ p.now.many }
+        requires small { length p.now.text.now < 4294967295 }
+        requires order { Order p.now.text.now self.now.owners self.now.starts p.now.from p.now.many (length p.now.text.now) self.now.ended }
+        requires finds { Finds p.now.text.now self.now.starts self.now.ended found.now }
+        requires window { Window p.now.text.now p.now.from p.now.many m.old }
+        ensures { Window p.now.text.now p.now.from p.now.many m.new }
+    {
+        for k in 0..self.ended {
+            windows::put(
+                m,
+                usize::from(self.owners[k]),
+                closed_note(found[k], self.starts[k]),
+            );
+        }
+    }
 }
 
-// The numbers of a bracket that has no partner, or one without a body behind it.
-fn broken() -> Pair
-    ensures { result.first ≡ 4294967295 }
+// What is noted of a bracket that is closed before a place, by what the search for a body that begins there finds.
+fn closed_note(found: Sought, start: u32) -> Note
+    requires { 1 ≤ start }
+    ensures { Closes found start result }
 {
-    Pair {
-        first: NEVER,
-        second: 0,
-    }
-}
-
-// The brackets that have no partner.
-fn note_unmet(
-    s: &[u8],
-    from: usize,
-    many: usize,
-    high: usize,
-    opens: &[u16; 2048],
-    m: &mut [u32; 4099],
-)
-    requires { (many ≤ 2048)
-        × (high ≤ many)
-        × (length opens.now ≡ 2048)
-        × Unmet s.now opens.now from many high
-        × Window s.now from many m.old }
-    ensures { Window s.now from many m.new }
-{
-    let mut k: usize = 0;
-    while k < high {
-        note(m, opens[k], broken());
-        k += 1;
-    }
-}
-
-// The numbers of a bracket that is closed before a place, by what the search for a body that begins there finds.
-fn closed_pair(found: u32, start: u32) -> Pair
-    ensures { Closes found start result.first result.second }
-{
-    if found == 2 {
-        return broken();
-    }
-    if found < 3 {
-        return Pair {
-            first: start,
-            second: 0,
-        };
-    }
-    Pair {
-        first: start,
-        second: found - 2,
-    }
-}
-
-// The brackets that are closed.
-fn note_closed(
-    s: &[u8],
-    from: usize,
-    many: usize,
-    ended: usize,
-    owners: &[u16; 2048],
-    starts: &[u32; 2048],
-    numbers: &[u32; 2050],
-    m: &mut [u32; 4099],
-)
-    requires { (many ≤ 2048)
-        × (ended ≤ many)
-        × (length s.now < 4294967295)
-        × Order s.now owners.now starts.now from many (length s.now) ended
-        × (length numbers.now ≡ 2050)
-        × Finds s.now starts.now ended numbers.now
-        × Window s.now from many m.old }
-    ensures { Window s.now from many m.new }
-{
-    let mut k: usize = 0;
-    while k < ended {
-        let p = closed_pair(numbers[2 + k], starts[k]);
-        note(m, owners[k], p);
-        k += 1;
+    let partner = start as usize - 1;
+    match found {
+        Sought::Nothing => Note::Broken,
+        Sought::Brace(brace) => Note::Whole(partner, brace as usize),
+        Sought::Unknown | Sought::Ongoing => Note::Closed(partner),
     }
 }
 
 // The numbers of a part. The searches for bodies begin at places that rise, and are told together.
-fn fill_part(s: &[u8], t: &[u16; 36865], from: usize, many: usize, m: &mut [u32; 4099])
-    requires { (from + many ≤ length s.now)
-        × (1 ≤ many)
-        × (many ≤ 2048)
-        × (length s.now < 4294967295)
-        × Window s.now from many m.old
-        × Summed s.now t.now }
-    ensures { Window s.now from many m.new }
+fn fill_part(p: &Part, m: &mut [u32; 4099])
+    requires part { p.now.from + p.now.many ≤ length p.now.text.now }
+    requires some { 1 ≤ p.now.many }
+    requires many { p.now.many ≤ 2048 }
+    requires small { length p.now.text.now < 4294967295 }
+    requires window { Window p.now.text.now p.now.from p.now.many m.old }
+    requires summed { Summed p.now.text.now p.now.sums.now }
+    ensures { Window p.now.text.now p.now.from p.now.many m.new }
 {
-    let mut opens = [0u16; 2048];
-    let mut owners = [0u16; 2048];
-    let mut starts = [0u32; 2048];
-    let p = inside(s, from, many, &mut opens, &mut owners, &mut starts);
-    let q = behind(s, t, from, many, p, &opens, &mut owners, &mut starts);
-    note_unmet(s, from, many, q.high, &opens, m);
-    let mut numbers = [0u32; 2050];
-    bodies::note_bodies(s, t, &starts, q.ended, &mut numbers);
-    note_closed(s, from, many, q.ended, &owners, &starts, &numbers, m);
+    let mut pass = Pass::new(p);
+    pass.inside(p);
+    pass.behind(p);
+    pass.note_unmet(p, m);
+    let found = bodies::note_bodies(p.text, p.sums, &pass.starts[..pass.ended]);
+    pass.note_closed(p, &found, m);
 }
 
 // The numbers of the part that begins at a place. In a text with places that a number does not hold none is noted.
@@ -323,7 +284,12 @@ pub fn fill(s: &[u8], t: &[u16; 36865], from: usize, m: &mut [u32; 4099])
         windows::clear(m);
         return;
     }
-    let many = flat::ahead(from, windows::MOST, s.len()) - from;
-    begin(from, many, m);
-    fill_part(s, t, from, many, m);
+    let part = Part {
+        text: s,
+        sums: t,
+        from,
+        many: windows::MOST.min(s.len() - from),
+    };
+    part.begin(m);
+    fill_part(&part, m);
 }

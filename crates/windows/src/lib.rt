@@ -2,7 +2,8 @@
 // The first number of each place stands behind them, and its second 2048 further. The last number counts how often numbers of the part were of use.
 #![tactic(auto)]
 
-ghost use Rattle.std.specs.Prelude.{◌≡◌, ◌≤◌, length, get_or};
+ghost use Rattle.std.specs.Prelude.{◌≡◌, ◌+◌, ◌≤◌, ◌<◌, length, get_or};
+ghost use Rattle.windows.specs.Notes.{Small, first_of, second_of, set_pair};
 ghost use Rattle.windows.specs.Window.{Found, Kept};
 
 // The most places.
@@ -107,6 +108,34 @@ pub fn is_worth(m: &mut [u32; 4099], at: usize) -> bool
     m[1] = 0;
     m[2] = count + 1;
     false
+}
+
+// What is noted of the bracket at a place: nothing, that it has no partner or no body behind it, its partner, or also the brace of the body.
+#[derive(Clone, Copy)]
+pub enum Note {
+    Nothing,
+    Broken,
+    Closed(usize),
+    Whole(usize, usize),
+}
+
+// The first number of a bracket that has no partner, or one without a body behind it.
+pub const NEVER: u32 = u32::MAX;
+
+// What is noted of the place with an index is written down: a place as one more than itself.
+pub fn put(m: &mut [u32; 4099], i: usize, n: Note)
+    requires index { i < 2048 }
+    requires small { Small n }
+    ensures { m.new ≡ set_pair m.old i (first_of n) (second_of n) }
+{
+    let (first, second) = match n {
+        Note::Nothing => (0, 0),
+        Note::Broken => (NEVER, 0),
+        Note::Closed(partner) => (partner as u32 + 1, 0),
+        Note::Whole(partner, brace) => (partner as u32 + 1, brace as u32 + 1),
+    };
+    m[2 + i] = first;
+    m[2050 + i] = second;
 }
 
 // The two numbers of a place.

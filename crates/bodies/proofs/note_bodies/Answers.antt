@@ -1,20 +1,24 @@
--- `bodies::note_bodies` meets its contract: the walk begins with nothing noted, and what its numbers tell at its end stays so.
-use native.Mathlib.Omega.{arith}
-use Rattle.bodies.specs.Numbers.{finds-nothing, fresh, told-finds}
+-- `bodies::note_bodies` meets its contract: the walk begins with nothing told, and what is told at its end stays so.
+use Rattle.std.proofs.Common.{get_or}
+use Rattle.bodies.specs.Numbers.{finds-nothing, told-finds, told-rest}
+use Rattle.bodies.specs.Walking.{kept-first, kept-told}
 use Rattle.bodies.proofs.note_bodies.Goals as goal
-
-pub returns-then-many-eq0 : goal.returns-then-many-eq0
-returns-then-many-eq0 c =
-    (c.requires.2, finds-nothing c.args.numbers.now c.requires.2 c.requires.4 c.args.s.now c.args.starts.now c.args.many)
+use Rattle.bodies.proofs.note_bodies.Goals.{then-s-walk, else-s-walk}
 
 pub returns-then-s-gt4294967292 : goal.returns-then-s-gt4294967292
-returns-then-s-gt4294967292 c =
-    (c.requires.2, finds-nothing c.args.numbers.now c.requires.2 c.requires.4 c.args.s.now c.args.starts.now c.args.many)
+returns-then-s-gt4294967292 c = finds-nothing _ _ _
 
-pub walk_on-at-requires : goal.walk_on-at-requires
-walk_on-at-requires c =
-    (c.requires.0, c.requires.1, c.requires.3.inside 0 (omega (arith, c.if-many-eq0.false)), omega (arith, c.if-s-gt4294967292.false), c.requires.5, fresh _ c.requires.2 c.requires.4)
+pub walk-requires-clause-kept : goal.walk-requires-clause-kept
+walk-requires-clause-kept c =
+    let first = c.in-Some.ensures.item.3 in
+    rw (first.1 0)
+    (kept-first c.args.s.now c.args.starts.now c.new.result c.new-2.result c.requires.most (c.requires.rising.inside 0 first.0) c.if-s-gt4294967292.false
+    (c.new.ensures (get_or c.args.starts.now 0 0)) c.new-2.ensures)
 
 pub returns : goal.returns
 returns c =
-    (c.finish.ensures.0, told-finds c.args.s.now c.args.starts.now c.walk_on-at.result _ c.finish.new.m c.walk_on-at.ensures c.finish.ensures.1 c.args.many)
+    let t = kept-told _ _ c.walk.new.self c.walk.ensures in
+    elim c.if-s-walk.branch [
+      | then-s-walk w ↦ rw w.walk-is (told-rest _ _ _ _ _ t w.if-s-walk.true w.finish.ensures _)
+      | else-s-walk w ↦ rw w.walk-is (told-finds _ _ _ _ t _)
+    ]
