@@ -143,6 +143,7 @@ struct Places<'a> {
     text: &'a [u8],
     sums: &'a [u16; 36865],
     starts: &'a [u32],
+    ghost summed: { Summed text.now sums.now },
 }
 
 // How far the walk over a text has come: how many searches have begun, the square brackets that were opened and closed since the walk began, and the groups
@@ -317,7 +318,6 @@ impl Walk {
     // The walk further on. It comes to the beginning of each chunk once; elsewhere no sums are told.
     fn onward(&mut self, p: &Places)
         requires inside { self.old.at < length p.now.text.now }
-        requires summed { Summed p.now.text.now p.now.sums.now }
         requires kept { Kept p.now.text.now p.now.starts.now self.old }
         ensures further { self.old.at < self.new.at }
         ensures kept { Kept p.now.text.now p.now.starts.now self.new }
@@ -335,8 +335,7 @@ impl Walk {
 
     // The walk to the end of the text, or until no search is pending behind the last place.
     fn walk(&mut self, p: &Places)
-        requires summed { Summed p.now.text.now p.now.sums.now }
-        requires kept { Kept p.now.text.now p.now.starts.now self.old }
+        requires { Kept p.now.text.now p.now.starts.now self.old }
         ensures { Kept p.now.text.now p.now.starts.now self.new }
     {
         // Kept: a step is a chunk, or a byte and any number of quiet ones behind it, so no `for` counts the steps.

@@ -21,13 +21,16 @@ struct Part<'a> {
     sums: &'a [u16; 36865],
     from: usize,
     many: usize,
+    ghost inside: { from + many ≤ length text.now },
+    ghost some: { 1 ≤ many },
+    ghost many_most: { many ≤ 2048 },
+    ghost small: { length text.now < 4294967295 },
+    ghost summed: { Summed text.now sums.now },
 }
 
 impl Part<'_> {
     // The part with no number noted yet, so none was of use.
     fn begin(&self, m: &mut [u32; 4099])
-        requires many { self.now.many ≤ 2048 }
-        requires from { self.now.from < 4294967295 }
         ensures { Begun self.now.from self.now.many self.now.many m.new }
     {
         m[4098] = 0;
@@ -56,7 +59,6 @@ struct Pass {
 impl Pass {
     // The pass where the part begins: its first bracket waits.
     fn new(p: &Part) -> Pass
-        requires { 1 ≤ p.now.many }
         ensures at { result.at ≡ p.now.from }
         ensures within { Within p.now.text.now p.now.from p.now.many result }
     {
@@ -97,9 +99,6 @@ impl Pass {
 
     // The pass past a byte inside the part. A closing bracket for which none waits closes one from before the part.
     fn byte_inside(&mut self, p: &Part)
-        requires part { p.now.from + p.now.many ≤ length p.now.text.now }
-        requires many { p.now.many ≤ 2048 }
-        requires small { length p.now.text.now < 4294967295 }
         requires before { self.old.at + 1 < p.now.from + p.now.many }
         requires within { Within p.now.text.now p.now.from p.now.many self.old }
         ensures at { self.new.at ≡ self.old.at + 1 }
@@ -120,10 +119,6 @@ impl Pass {
 
     // The pass inside the part, up to its last byte.
     fn inside(&mut self, p: &Part)
-        requires part { p.now.from + p.now.many ≤ length p.now.text.now }
-        requires some { 1 ≤ p.now.many }
-        requires many { p.now.many ≤ 2048 }
-        requires small { length p.now.text.now < 4294967295 }
         requires at { self.old.at ≡ p.now.from }
         requires within { Within p.now.text.now p.now.from p.now.many self.old }
         ensures { Passed p.now.text.now p.now.from p.now.many self.new }
@@ -137,8 +132,6 @@ impl Pass {
     fn byte_behind(&mut self, p: &Part)
         requires inside { self.old.at < length p.now.text.now }
         requires some { 0 < self.old.high }
-        requires many { p.now.many ≤ 2048 }
-        requires small { length p.now.text.now < 4294967295 }
         requires passed { Passed p.now.text.now p.now.from p.now.many self.old }
         ensures at { self.new.at ≡ self.old.at + 1 }
         ensures passed { Passed p.now.text.now p.now.from p.now.many self.new }
@@ -158,8 +151,6 @@ impl Pass {
         requires further { self.old.at < to }
         requires to { to ≤ length p.now.text.now }
         requires some { 0 < self.old.high }
-        requires many { p.now.many ≤ 2048 }
-        requires small { length p.now.text.now < 4294967295 }
         requires passed { Passed p.now.text.now p.now.from p.now.many self.old }
         ensures further { self.old.at < self.new.at }
         ensures passed { Passed p.now.text.now p.now.from p.now.many self.new }
@@ -176,10 +167,7 @@ impl Pass {
     fn turn(&mut self, p: &Part)
         requires inside { self.old.at < length p.now.text.now }
         requires some { 0 < self.old.high }
-        requires many { p.now.many ≤ 2048 }
-        requires small { length p.now.text.now < 4294967295 }
         requires passed { Passed p.now.text.now p.now.from p.now.many self.old }
-        requires summed { Summed p.now.text.now p.now.sums.now }
         ensures further { self.old.at < self.new.at }
         ensures passed { Passed p.now.text.now p.now.from p.now.many self.new }
     {
@@ -197,10 +185,7 @@ impl Pass {
 
     // The pass on from the last byte of the part. It ends where no bracket waits any more, and those that wait at the end of the text have no partner.
     fn behind(&mut self, p: &Part)
-        requires many { p.now.many ≤ 2048 }
-        requires small { length p.now.text.now < 4294967295 }
-        requires passed { Passed p.now.text.now p.now.from p.now.many self.old }
-        requires summed { Summed p.now.text.now p.now.sums.now }
+        requires { Passed p.now.text.now p.now.from p.now.many self.old }
         ensures few { self.new.high + self.new.ended ≤ p.now.many }
         ensures unmet { Unmet p.now.text.now self.new.opens p.now.from p.now.many self.new.high }
         ensures order { Order p.now.text.now self.new.owners self.new.starts p.now.from p.now.many (length p.now.text.now) self.new.ended }
@@ -213,7 +198,6 @@ impl Pass {
 
     // The brackets that have no partner are noted.
     fn note_unmet(&self, p: &Part, m: &mut [u32; 4099])
-        requires many { p.now.many ≤ 2048 }
         requires high { self.now.high ≤ p.now.many }
         requires unmet { Unmet p.now.text.now self.now.opens p.now.from p.now.many self.now.high }
         requires window { Window p.now.text.now p.now.from p.now.many m.old }
@@ -226,9 +210,7 @@ impl Pass {
 
     // The brackets that are closed are noted.
     fn note_closed(&self, p: &Part, found: &[Sought; 2048], m: &mut [u32; 4099])
-        requires many { p.now.many ≤ 2048 }
         requires ended { self.now.ended ≤ p.now.many }
-        requires small { length p.now.text.now < 4294967295 }
         requires order { Order p.now.text.now self.now.owners self.now.starts p.now.from p.now.many (length p.now.text.now) self.now.ended }
         requires finds { Finds p.now.text.now self.now.starts self.now.ended found.now }
         requires window { Window p.now.text.now p.now.from p.now.many m.old }
@@ -259,12 +241,7 @@ fn closed_note(found: Sought, start: u32) -> Note
 
 // The numbers of a part. The searches for bodies begin at places that rise, and are told together.
 fn fill_part(p: &Part, m: &mut [u32; 4099])
-    requires part { p.now.from + p.now.many ≤ length p.now.text.now }
-    requires some { 1 ≤ p.now.many }
-    requires many { p.now.many ≤ 2048 }
-    requires small { length p.now.text.now < 4294967295 }
-    requires window { Window p.now.text.now p.now.from p.now.many m.old }
-    requires summed { Summed p.now.text.now p.now.sums.now }
+    requires { Window p.now.text.now p.now.from p.now.many m.old }
     ensures { Window p.now.text.now p.now.from p.now.many m.new }
 {
     let mut pass = Pass::new(p);

@@ -8,8 +8,8 @@ use Rattle.bodies.proofs.note_bodies.Goals.{then-s-walk, else-s-walk}
 pub returns-then-s-gt4294967292 : goal.returns-then-s-gt4294967292
 returns-then-s-gt4294967292 c = finds-nothing _ _ _
 
-pub walk-requires-clause-kept : goal.walk-requires-clause-kept
-walk-requires-clause-kept c =
+pub walk-requires : goal.walk-requires
+walk-requires c =
     let first = c.in-Some.ensures.item.3 in
     rw (first.1 0)
     (kept-first c.args.s.now c.args.starts.now c.new.result c.new-2.result c.requires.most (c.requires.rising.inside 0 first.0) c.if-s-gt4294967292.false

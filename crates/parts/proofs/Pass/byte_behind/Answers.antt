@@ -12,7 +12,7 @@ returns-in-41-clause-passed c = passed_close _ _ _ c.args.self.now c.requires.pa
 pub returns-in-41-2-clause-passed : goal.returns-in-41-2-clause-passed
 returns-in-41-2-clause-passed c =
     subst (Passed c.args.p.now.text.now c.args.p.now.from c.args.p.now.many) (sym c.close.ensures)
-    (passed_met _ _ _ c.args.self.now c.requires.passed c.requires.inside c.in-41.is (omega arith) c.requires.some c.requires.many)
+    (passed_met _ _ _ c.args.self.now c.requires.passed c.requires.inside c.in-41.is (omega arith) c.requires.some c.args.p.now.many_most)
 
 pub returns-in_default-clause-passed : goal.returns-in_default-clause-passed
 returns-in_default-clause-passed c =

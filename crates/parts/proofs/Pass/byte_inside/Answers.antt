@@ -8,14 +8,14 @@ returns-in-40-clause-within c =
     let p = c.args.p.now in
     let x = c.args.self.now in
     let l : x.at < length p.text.now = omega arith in
-    subst (Within p.text.now p.from p.many) (sym c.open.ensures) (within_open _ _ _ x c.requires.within l c.requires.before c.in-40.is c.requires.many)
+    subst (Within p.text.now p.from p.many) (sym c.open.ensures) (within_open _ _ _ x c.requires.within l c.requires.before c.in-40.is c.args.p.now.many_most)
 
 pub returns-then-self-gt0-clause-within : goal.returns-then-self-gt0-clause-within
 returns-then-self-gt0-clause-within c =
     let p = c.args.p.now in
     let x = c.args.self.now in
     let l : x.at < length p.text.now = omega arith in
-    subst (Within p.text.now p.from p.many) (sym c.close.ensures) (within_met _ _ _ x c.requires.within l c.requires.before c.in-41.is c.if-self-gt0.true c.requires.many)
+    subst (Within p.text.now p.from p.many) (sym c.close.ensures) (within_met _ _ _ x c.requires.within l c.requires.before c.in-41.is c.if-self-gt0.true c.args.p.now.many_most)
 
 pub returns-else-self-gt0-clause-within : goal.returns-else-self-gt0-clause-within
 returns-else-self-gt0-clause-within c =

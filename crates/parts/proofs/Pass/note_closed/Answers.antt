@@ -11,7 +11,7 @@ put-requires-clause-small c =
     let o = c.requires.order in
     let h = c.loop-k-test.true in
     let k = c.loop-k.k in
-    small_note _ _ _ _ _ _ (o.closed k h) (o.most k h) c.requires.small (λ p. c.requires.finds.brace-there k p h) _ c.closed_note.ensures
+    small_note _ _ _ _ _ _ (o.closed k h) (o.most k h) c.args.p.now.small (λ p. c.requires.finds.brace-there k p h) _ c.closed_note.ensures
 
 pub loop-k-preserved : goal.loop-k-preserved
 loop-k-preserved c =
@@ -22,7 +22,7 @@ loop-k-preserved c =
     let k = c.loop-k.k in
     let f = c.requires.finds in
     let i = get_or x.owners k 0 in
-    let small : get_or x.starts k 0 < 4294967295 = omega (arith, o.most k h, c.requires.small) in
+    let small : get_or x.starts k 0 < 4294967295 = omega (arith, o.most k h, c.args.p.now.small) in
     subst (Window p.text.now p.from p.many) (sym c.put.ensures)
     (rw c.from.ensures
     (window-set p.text.now c.loop-k.m p.from p.many i _ _ c.loop-k.invariant (o.closed k h).within
