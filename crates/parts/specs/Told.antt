@@ -1,12 +1,15 @@
 -- The end of a list of parameters and the brace of the body behind it, and what two numbers tell of them at a place. The first is one more than the place
 -- where the list ends, or tells that not both are there, or nothing. The second is one more than the place of the brace, or tells nothing.
 use Rattle.std.specs.Prelude.{ℕ, ◌+◌, ◌-◌, ◌≡◌, ◌≢◌, List, drop}
-use Rattle.std.proofs.Common.{⊎_elim, arith}
+use Rattle.std.proofs.Common.{⊎_elim, arith, ap, subst, ◌∙◌}
 use Rattle.std.proofs.Math.Option.{Option, none, some}
 use Rattle.text_rules.specs.Classes.{round_close, round_open}
 use Rattle.source_rules.specs.Brackets.{partner}
 use Rattle.source_rules.specs.Finding.{body_at}
+use Rattle.windows.specs.Notes.{NotedAt}
 use Rattle.windows.specs.Window.{Found, Noted, found-tells}
+use Rattle.windows.specs.declared.Note.{Note}
+use Rattle.windows.specs.declared.Note.TheVariants.{Broken, Closed, Nothing, Whole}
 use Rattle.chunks.specs.Table.{Summed}
 
 -- the partner of a round bracket, sought from a place on with so many open inside it
@@ -42,3 +45,27 @@ told_zero s at first second z = record { there = λ n m. absurd (n z); nowhere =
 -- what numbers that are read tell
 pub found-told : (s m : List ℕ) (at first second : ℕ) → Noted (Told s) m → Found m at first second → Told s at first second
 found-told s m at first second n f = ⊎_elim (λ z. told_zero s at first second z.0) (λ p. p) (found-tells (Told s) m at first second n f)
+
+-- what is noted of a bracket tells
+abbrev pub NoteTells : List ℕ → (at : ℕ) → Note → Type 0
+NoteTells s at Nothing = Unit {0}
+NoteTells s at Broken = NoBody s at
+NoteTells s at (Closed partner) = sought_from s at 0 ≡ some partner
+NoteTells s at (Whole partner brace) = (sought_from s at 0 ≡ some partner) × (body_behind s partner ≡ some brace)
+
+pub note_tells : (s m : List ℕ) (at : ℕ) (n : Note) → Noted (Told s) m → NotedAt m at n → NoteTells s at n
+note_tells s m at Nothing w f = tt
+note_tells s m at Broken w f = (found-told s m at _ _ w f.1.1.0).nowhere f.1.1.1
+note_tells s m at (Closed partner) w f =
+    let t = found-told s m at _ _ w f.1.1.0 in
+    let e = f.1.1.1 in
+    let same : f.0 - 1 ≡ partner = omega (arith, e.0) in
+    t.there (omega (arith, e.0)) e.1 ∙ ap some same
+note_tells s m at (Whole partner brace) w f =
+    let t = found-told s m at _ _ w f.1.1.0 in
+    let e = f.1.1.1 in
+    let same : f.0 - 1 ≡ partner = omega (arith, e.0) in
+    let brace-same : f.1.0 - 1 ≡ brace = omega (arith, e.2) in (
+      t.there (omega (arith, e.0)) e.1 ∙ ap some same,
+      subst (λ p. body_behind s p ≡ some brace) same (t.brace (omega (arith, e.0)) e.1 (omega (arith, e.2)) ∙ ap some brace-same),
+    )

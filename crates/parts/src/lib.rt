@@ -11,9 +11,6 @@ ghost use Rattle.parts.specs.Told.{Lent};
 use bodies::Sought;
 use windows::Note;
 
-// The first number of a bracket that has no partner, or one without a body behind it.
-pub const NEVER: u32 = windows::NEVER;
-
 // A text, the sums of its chunks, and the part of it that is noted: where it begins, and how many places it has.
 #[derive(Clone, Copy)]
 struct Part<'a> {

@@ -14,6 +14,7 @@ ghost use Rattle.signatures.specs.Signatures.{Begins, Follows, Lends, body_of};
 
 use flat::{Counts, Reached};
 use search::Met;
+use windows::Note;
 
 // The bytes in which a list is sought first, and a body: most end before that, and nothing is noted for them.
 const NEAR: usize = 4096;
@@ -126,21 +127,12 @@ fn noted_list(
         return None;
     }
     look_up(s, from, m, t);
-    let p = windows::pair_at(m, from);
-    if p.first == parts::NEVER {
-        return None;
+    match windows::noted_at(m, from) {
+        Note::Nothing => far_list(s, t, from, near, depth),
+        Note::Broken => None,
+        Note::Closed(closed) => body_behind(s, t, closed),
+        Note::Whole(closed, body) => Some(Signature { closed, body }),
     }
-    if p.first == 0 {
-        return far_list(s, t, from, near, depth);
-    }
-    let closed = p.first as usize - 1;
-    if p.second == 0 {
-        return body_behind(s, t, closed);
-    }
-    Some(Signature {
-        closed,
-        body: p.second as usize - 1,
-    })
 }
 
 // What follows a `(` before `from` whose list ends at `closed`. No body is met up to the place `near`, where so much is counted.
@@ -165,17 +157,11 @@ fn noted_body(
         return None;
     }
     look_up(s, from, m, t);
-    let p = windows::pair_at(m, from);
-    if p.first == parts::NEVER {
-        return None;
+    match windows::noted_at(m, from) {
+        Note::Broken => None,
+        Note::Whole(_, body) => Some(Signature { closed, body }),
+        Note::Nothing | Note::Closed(_) => far_body(s, t, closed, near, n),
     }
-    if 0 < p.first && 0 < p.second {
-        return Some(Signature {
-            closed,
-            body: p.second as usize - 1,
-        });
-    }
-    far_body(s, t, closed, near, n)
 }
 
 // What follows a `(`, and how far the search for the body went, at most: nothing rests on that but time.
@@ -312,17 +298,15 @@ pub fn brackets_after(
     requires { (from ≤ length s.now) × Lends s.now m.old t.old f.old }
     ensures { Begins s.now from result × Lends s.now m.new t.new f.new }
 {
-    let p = windows::pair_at(m, from);
-    if p.first == parts::NEVER {
-        windows::mark_used(m);
-        return None;
+    match windows::noted_at(m, from) {
+        Note::Broken => {
+            windows::mark_used(m);
+            None
+        }
+        Note::Whole(closed, body) => {
+            windows::mark_used(m);
+            Some(Signature { closed, body })
+        }
+        Note::Nothing | Note::Closed(_) => sought_after(s, from, m, t, f),
     }
-    if p.first == 0 || p.second == 0 {
-        return sought_after(s, from, m, t, f);
-    }
-    windows::mark_used(m);
-    Some(Signature {
-        closed: p.first as usize - 1,
-        body: p.second as usize - 1,
-    })
 }

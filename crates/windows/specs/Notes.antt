@@ -1,5 +1,6 @@
 -- How it is written down what is noted of a bracket: by two numbers.
-use Rattle.std.specs.Prelude.{ℕ, ◌+◌, ◌<◌, List, set}
+use Rattle.std.specs.Prelude.{ℕ, ◌+◌, ◌<◌, ◌≡◌, ◌≢◌, List, set}
+use Rattle.windows.specs.Window.{Found}
 use Rattle.windows.specs.declared.Note.{Note}
 use Rattle.windows.specs.declared.Note.TheVariants.{Broken, Closed, Nothing, Whole}
 
@@ -30,3 +31,14 @@ Small (Whole partner brace) = (partner + 1 < never) × (brace + 1 < never)
 -- two numbers of a place are set
 abbrev pub set_pair : List ℕ → (i first second : ℕ) → List ℕ
 set_pair m i first second = set (set m (2 + i) first) (2050 + i) second
+
+-- what two numbers tell
+abbrev pub Reads : (first second : ℕ) → Note → Type 0
+Reads first second Nothing = first ≡ 0
+Reads first second Broken = first ≡ never
+Reads first second (Closed partner) = (first ≡ partner + 1) × (first ≢ never)
+Reads first second (Whole partner brace) = (first ≡ partner + 1) × (first ≢ never) × (second ≡ brace + 1)
+
+-- what is noted of a place: what its own numbers tell, or nothing
+abbrev pub NotedAt : List ℕ → (at : ℕ) → Note → Type 0
+NotedAt m at n = (first : ℕ) × ((second : ℕ) × (Found m at first second × Reads first second n))

@@ -1,7 +1,7 @@
 -- Numbers noted for the places of a part of a text, two for each. The first number tells where the part begins, the second how many places it has. The first
 -- numbers of the places stand behind them, and the second ones 2048 further. The last number counts uses, and tells nothing of a place.
 use Rattle.std.specs.Prelude.{ℕ, ◌+◌, ◌-◌, ◌≤◌, ◌<◌, ◌≡◌, ◌⊎◌, List, length, get_or, set}
-use Rattle.std.proofs.Common.{subst, sym, ◌∙◌, inl, inr, arith, length-set, get_or-set_other, get_or-set_same}
+use Rattle.std.proofs.Common.{subst, sym, ◌∙◌, refl, inl, inr, arith, length-set, get_or-set_other, get_or-set_same}
 
 -- the two numbers of each place tell of it what they must
 pub record Noted (P : (at first second : ℕ) → Type 0) (m : List ℕ) : Type 0 where
@@ -50,9 +50,13 @@ noted-kept P m m' n (all_stay h same) =
     }
 noted-kept P m m' n (none_left h z) = noted_nothing P m' h z
 
+-- where nothing changes
+pub kept_all : (m : List ℕ) → length m ≡ 4099 → Kept m m
+kept_all m h = all_stay h (λ i l. refl)
+
 -- where only the last number changes
-pub kept-last : (m : List ℕ) (used : ℕ) → length m ≡ 4099 → Kept m (set m 4098 used)
-kept-last m used h = all_stay (length-set m 4098 used ∙ h) (λ i l. get_or-set_other m 4098 i used 0 (λ e. omega (arith, e, l)))
+pub kept_last : (m : List ℕ) (used : ℕ) → length m ≡ 4099 → Kept m (set m 4098 used)
+kept_last m used h = all_stay (length-set m 4098 used ∙ h) (λ i l. get_or-set_other m 4098 i used 0 (λ e. omega (arith, e, l)))
 
 -- where a search is counted no place is left
 counted_none : (m : List ℕ) (count : ℕ) → length m ≡ 4099 → (length (set (set m 1 0) 2 count) ≡ 4099) × (get_or (set (set m 1 0) 2 count) 1 0 ≡ 0)
@@ -64,5 +68,5 @@ counted_none m count h = (
 pub kept_more : (m : List ℕ) (count : ℕ) → length m ≡ 4099 → Kept m (set (set m 1 0) 2 count)
 kept_more m count h = let l = counted_none m count h in none_left l.0 l.1
 
-pub kept-first : (m : List ℕ) (at count : ℕ) → length m ≡ 4099 → Kept m (set (set (set m 0 at) 1 0) 2 count)
-kept-first m at count h = let l = counted_none (set m 0 at) count (length-set m 0 at ∙ h) in none_left l.0 l.1
+pub kept_first : (m : List ℕ) (at count : ℕ) → length m ≡ 4099 → Kept m (set (set (set m 0 at) 1 0) 2 count)
+kept_first m at count h = let l = counted_none (set m 0 at) count (length-set m 0 at ∙ h) in none_left l.0 l.1

@@ -2,18 +2,12 @@
 // The first number of each place stands behind them, and its second 2048 further. The last number counts how often numbers of the part were of use.
 #![tactic(auto)]
 
-ghost use Rattle.std.specs.Prelude.{◌≡◌, ◌+◌, ◌≤◌, ◌<◌, length, get_or};
-ghost use Rattle.windows.specs.Notes.{Small, first_of, second_of, set_pair};
-ghost use Rattle.windows.specs.Window.{Found, Kept};
+ghost use Rattle.std.specs.Prelude.{◌≡◌, ◌+◌, ◌≤◌, ◌<◌, length, get_or, MatchOption};
+ghost use Rattle.windows.specs.Notes.{NotedAt, Reads, Small, first_of, second_of, set_pair};
+ghost use Rattle.windows.specs.Window.{Kept};
 
 // The most places.
 pub const MOST: usize = 2048;
-
-fn wide(n: u32) -> usize
-    ensures { result ≡ n }
-{
-    n as usize
-}
 
 // No place.
 pub fn clear(m: &mut [u32; 4099])
@@ -23,15 +17,16 @@ pub fn clear(m: &mut [u32; 4099])
     m[1] = 0;
 }
 
-// Whether numbers are noted for a place.
-fn is_noted(m: &[u32; 4099], at: usize) -> bool
-    requires { length m.now ≡ 4099 }
+// How far a place stands behind the first of the part.
+fn index(m: &[u32; 4099], at: usize) -> Option<usize>
+    ensures { MatchOption result (at < get_or m.now 0 0) (λ i. at ≡ get_or m.now 0 0 + i) }
 {
-    let from = wide(m[0]);
-    if at < from {
-        return false;
-    }
-    at - from < wide(m[1])
+    at.checked_sub(m[0] as usize)
+}
+
+// Whether numbers are noted for a place.
+fn is_noted(m: &[u32; 4099], at: usize) -> bool {
+    index(m, at).is_some_and(|i| i < m[1] as usize)
 }
 
 // The searches that are made one by one before a part is noted, and the uses of its numbers before the next is noted at once.
@@ -39,37 +34,17 @@ const FEW: u32 = 16;
 
 // Whether searches are counted, from one that began at most a part's length before a place. As long as there is no part, the array's third number counts
 // them, and its first tells where the first of them began.
-fn is_counting(m: &[u32; 4099], at: usize) -> bool
-    requires { length m.now ≡ 4099 }
-{
-    if m[1] != 0 {
-        return false;
-    }
-    let from = wide(m[0]);
-    if at < from {
-        return false;
-    }
-    at - from < MOST
+fn is_counting(m: &[u32; 4099], at: usize) -> bool {
+    m[1] == 0 && index(m, at).is_some_and(|i| i < MOST)
 }
 
 // Whether a place stands in the part behind one whose numbers were of use often enough.
-fn is_next(m: &[u32; 4099], at: usize) -> bool
-    requires { length m.now ≡ 4099 }
-{
-    if m[1] == 0 {
-        return false;
-    }
-    if m[4098] < FEW {
-        return false;
-    }
-    let from = wide(m[0]);
-    if at < from {
-        return false;
-    }
-    at - from < 2 * MOST
+fn is_next(m: &[u32; 4099], at: usize) -> bool {
+    m[1] != 0 && FEW <= m[4098] && index(m, at).is_some_and(|i| i < 2 * MOST)
 }
 
 // Counts one more use of the numbers of the part, up to the number from which the next part is noted at once.
+#[tactic(auto, using(crate::specs::Window::kept_last, crate::specs::Window::kept_all))]
 pub fn mark_used(m: &mut [u32; 4099])
     requires { length m.old ≡ 4099 }
     ensures { Kept m.old m.new }
@@ -82,6 +57,7 @@ pub fn mark_used(m: &mut [u32; 4099])
 
 // Counts a search at a place that is long, and tells whether a part that begins there is worth noting. To note a part takes as long as several searches,
 // so sixteen are made one by one first. Behind a part that was of use as often the next is noted at once.
+#[tactic(auto, using(crate::specs::Window::kept_all, crate::specs::Window::kept_first, crate::specs::Window::kept_more))]
 pub fn is_worth(m: &mut [u32; 4099], at: usize) -> bool
     requires { length m.old ≡ 4099 }
     ensures { Kept m.old m.new }
@@ -120,7 +96,7 @@ pub enum Note {
 }
 
 // The first number of a bracket that has no partner, or one without a body behind it.
-pub const NEVER: u32 = u32::MAX;
+const NEVER: u32 = u32::MAX;
 
 // What is noted of the place with an index is written down: a place as one more than itself.
 pub fn put(m: &mut [u32; 4099], i: usize, n: Note)
@@ -138,34 +114,25 @@ pub fn put(m: &mut [u32; 4099], i: usize, n: Note)
     m[2050 + i] = second;
 }
 
-// The two numbers of a place.
-#[derive(Drop)]
-pub struct Pair {
-    pub first: u32,
-    pub second: u32,
+// What two numbers of a place tell.
+fn read(first: u32, second: u32) -> Note
+    ensures { Reads first second result }
+{
+    match (first.checked_sub(1), second.checked_sub(1)) {
+        (None, _) => Note::Nothing,
+        (Some(_), _) if first == NEVER => Note::Broken,
+        (Some(partner), None) => Note::Closed(partner as usize),
+        (Some(partner), Some(brace)) => Note::Whole(partner as usize, brace as usize),
+    }
 }
 
-// The numbers of a place, both 0 where none are noted.
-pub fn pair_at(m: &[u32; 4099], at: usize) -> Pair
-    requires { (length m.now ≡ 4099) × (get_or m.now 1 0 ≤ 2048) }
-    ensures { Found m.now at result.first result.second }
+// What is noted of the bracket at a place.
+pub fn noted_at(m: &[u32; 4099], at: usize) -> Note
+    requires { get_or m.now 1 0 ≤ 2048 }
+    ensures { NotedAt m.now at result }
 {
-    let from = wide(m[0]);
-    if at < from {
-        return Pair {
-            first: 0,
-            second: 0,
-        };
-    }
-    let i = at - from;
-    if i < wide(m[1]) {
-        return Pair {
-            first: m[2 + i],
-            second: m[2050 + i],
-        };
-    }
-    Pair {
-        first: 0,
-        second: 0,
+    match index(m, at) {
+        Some(i) if i < m[1] as usize => read(m[2 + i], m[2050 + i]),
+        _ => Note::Nothing,
     }
 }

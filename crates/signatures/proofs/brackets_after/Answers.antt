@@ -1,11 +1,11 @@
--- `signatures::brackets_after` meets its contract: the numbers tell of the place what they must, and where they do not tell all it is sought.
+-- `signatures::brackets_after` meets its contract: where what is noted does not tell all it is sought.
 use Rattle.windows.specs.Window.{noted-kept}
-use Rattle.parts.specs.Told.{Told, found-told}
+use Rattle.parts.specs.Told.{Told, note_tells}
+use Rattle.windows.specs.declared.Note.TheVariants.{Broken}
 use Rattle.signatures.proofs.brackets_after.Goals as goal
 
-pub returns-then-p : goal.returns-then-p
-returns-then-p c =
-    let a = c.args in
-    let s = a.s.now in
-    let told = found-told s _ a.from _ _ c.requires.1.0.0 c.pair_at-p.ensures in
-    (told.nowhere c.if-p.true, ((noted-kept (Told s) _ _ c.requires.1.0.0 c.mark_used.ensures, c.requires.1.0.1), c.requires.1.1))
+pub returns-in-Broken : goal.returns-in-Broken
+returns-in-Broken c =
+    let s = c.args.s.now in
+    let w = c.requires.1.0.0 in
+    (note_tells s _ c.args.from Broken w c.in-Broken.ensures, ((noted-kept (Told s) _ _ w c.mark_used.ensures, c.requires.1.0.1), c.requires.1.1))
