@@ -172,12 +172,10 @@ fn batch_bytes(lines: &[u8], starts: &[u32], ends: &[u32], m: usize) -> usize
     ensures { result ≡ length (key_lines (keys_at lines.now starts.now ends.now m)) }
 {
     let mut bytes: usize = 0;
-    let mut i = 0;
-    while i < m {
+    for i in 0..m {
         let a = sorted_keys::wide(starts[i]);
         let b = sorted_keys::wide(ends[i]);
         bytes += line_bytes(&lines[a..b]);
-        i += 1;
     }
     bytes
 }
@@ -196,12 +194,10 @@ fn put_batch(
     ensures { Written at (keys_at lines.now starts.now ends.now m) out.old result out.new }
 {
     let mut done = at;
-    let mut i = 0;
-    while i < m {
+    for i in 0..m {
         let a = sorted_keys::wide(starts[i]);
         let b = sorted_keys::wide(ends[i]);
         done = listed_keys::put_key(out, done, &lines[a..b]);
-        i += 1;
     }
     done
 }

@@ -26,11 +26,9 @@ fn blank_texts(tree: &[u8], work: &mut [u8])
     ensures { work.new ≡ blank_into (sources tree.now) work.old }
 {
     let n = layout::file_count(tree);
-    let mut k = 0;
-    while k < n {
+    for k in 0..n {
         let text = layout::text_span(tree, k);
         blanking::blank_part(tree, work, text.start, text.end);
-        k += 1;
     }
 }
 
@@ -118,9 +116,8 @@ fn scan_texts(tree: &[u8], work: &[u8], lent: &mut [u8]) -> usize
     let mut noted = [0u32; 4099];
     let mut sums = [0u16; 36865];
     let mut kept = [0usize; 259];
-    let mut file = 0;
     let mut done = 0;
-    while file < n {
+    for file in 0..n {
         let text = layout::text_span(tree, file);
         let from = text.start;
         done = scan_text(
@@ -133,7 +130,6 @@ fn scan_texts(tree: &[u8], work: &[u8], lent: &mut [u8]) -> usize
             &mut sums,
             &mut kept,
         );
-        file += 1;
     }
     done
 }

@@ -86,13 +86,11 @@ pub fn any_has(tree: &[u8], lent: &[u8], n: usize, from: usize, to: usize, bytes
     ensures { (result ≡ true → among bytes.now (map key (functions_of gate tree.now)) ≡ true)
         × (result ≡ false → NoneHas bytes.now (functions_of gate tree.now) from to) }
 {
-    let mut k = from;
-    while k < to {
+    for k in from..to {
         let f = functions::function_at(tree, lent, k);
         if has_key(tree, f, bytes) {
             return true;
         }
-        k += 1;
     }
     false
 }

@@ -31,13 +31,11 @@ fn mark(
         × (n ≤ length places.old) }
     ensures { Marks (some bytes.now) place (functions_of gate tree.now) places.old places.new }
 {
-    let mut k = from;
-    while k < to {
+    for k in from..to {
         let f = functions::function_at(tree, lent, k);
         if live::has_key(tree, f, bytes) {
             places[k] = place;
         }
-        k += 1;
     }
 }
 

@@ -113,15 +113,13 @@ fn set_leaves(tree: &[u8], lent: &[u8], n: usize, limits: Limits, nodes: &mut [u
     requires { Stand tree.now lent.now × (n ≡ length (functions_of gate tree.now)) × (2 * n ≤ length nodes.old) }
     ensures { (length nodes.new ≡ length nodes.old) × Entered (limits_of limits) tree.now n nodes.new }
 {
-    let mut k: usize = 0;
-    while k < n {
+    for k in 0..n {
         let f = functions::function_at(tree, lent, k);
         let mut leaf = n;
         if functions::is_over(limits, f) {
             leaf = k;
         }
         nodes[n + k] = leaf as u16;
-        k += 1;
     }
 }
 

@@ -228,14 +228,12 @@ pub fn measure(
 {
     let mut count: usize = 0;
     let mut bytes: usize = 0;
-    let mut k = 0;
-    while k < n {
+    for k in 0..n {
         let f = functions::function_at(tree, lent, k);
         let a = accepted(tree, f, k, lines, ordered, places);
         let size = regression_sizes::size_against(f, a, limits);
         count += size.count;
         bytes += size.bytes;
-        k += 1;
     }
     Size { count, bytes }
 }
@@ -261,12 +259,10 @@ pub fn put_all(
         × (out.new ≡ put_at at (listed (regressions (limits_of limits) (entries_of_lines lines.now) (functions_of gate tree.now))) out.old) }
 {
     let mut next = at;
-    let mut k = 0;
-    while k < n {
+    for k in 0..n {
         let f = functions::function_at(tree, lent, k);
         let a = accepted(tree, f, k, lines, ordered, places);
         next = put_against(tree, f, a, limits, out, next);
-        k += 1;
     }
     next
 }

@@ -89,10 +89,8 @@ fn next_file(tree: &[u8], of: &[u32], n: usize, last: usize) -> usize
     ensures { (result ≤ n) × FileChosen tree.now last (placed_from 0 (listed tree.now)) result }
 {
     let mut best = n;
-    let mut k: usize = 0;
-    while k < n {
+    for k in 0..n {
         best = better(tree, of, n, last, best, k);
-        k += 1;
     }
     best
 }
@@ -111,16 +109,14 @@ pub fn heaviest_files(tree: &[u8], of: &[u32], n: usize) -> Heaviest
 {
     let mut files = [0usize; 10];
     let mut last = n;
-    let mut done: usize = 0;
-    while done < 10 {
+    for done in 0..10 {
         last = next_file(tree, of, n, last);
         if last == n {
             return Heaviest { count: done, files };
         }
         files[done] = last;
-        done += 1;
     }
-    Heaviest { count: done, files }
+    Heaviest { count: 10, files }
 }
 
 // The bytes of a file's row.
@@ -152,11 +148,9 @@ pub fn heaviest_length(tree: &[u8], of: &[u32], h: Heaviest) -> usize
     let count = h.count;
     let files = h.files;
     let mut bytes: usize = 0;
-    let mut i: usize = 0;
-    while i < count {
+    for i in 0..count {
         let k = files[i];
         bytes += file_row_length(tree, of, k);
-        i += 1;
     }
     bytes
 }
@@ -172,11 +166,9 @@ pub fn put_heaviest(tree: &[u8], of: &[u32], h: Heaviest, out: &mut [u8], at: us
     let count = h.count;
     let files = h.files;
     let mut end = at;
-    let mut i: usize = 0;
-    while i < count {
+    for i in 0..count {
         let k = files[i];
         end = put_file_row(tree, of, k, out, end);
-        i += 1;
     }
     end
 }

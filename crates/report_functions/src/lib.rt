@@ -96,11 +96,9 @@ pub fn count(tree: &[u8], lent: &[u8], n: usize, limits: Limits) -> Counts
         bytes: 0,
         branches: 0,
     };
-    let mut k: usize = 0;
-    while k < n {
+    for k in 0..n {
         let f = functions::function_at(tree, lent, k);
         c = counted(tree, limits, f, c);
-        k += 1;
     }
     c
 }

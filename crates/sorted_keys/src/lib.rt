@@ -93,12 +93,10 @@ fn put_in(places: &mut [u32], count: usize, at: usize, place: u32)
         × (length places.new ≡ length places.old) }
 {
     let mut carried = place;
-    let mut i = at;
-    while i < count {
+    for i in at..count {
         let next = places[i];
         places[i] = carried;
         carried = next;
-        i += 1;
     }
 }
 

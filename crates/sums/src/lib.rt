@@ -44,11 +44,9 @@ pub fn file_totals(tree: &[u8], lent: &[u8], n: usize) -> Totals
     ensures { Sums tree.now result.of }
 {
     let mut of = [0u32; 1024];
-    let mut k = 0;
-    while k < n {
+    for k in 0..n {
         let file = file_at(tree, lent, k) as usize;
         of[file] = of[file] + branches_at(tree, lent, k);
-        k += 1;
     }
     Totals { of }
 }
@@ -83,10 +81,8 @@ pub fn fill(t: &mut [FileSum], totals: Totals, n: u32)
     requires { (n ≤ length t.old) × (n ≤ 1024) }
     ensures { t.new ≡ overwritten (first_entries totals.of n) t.old }
 {
-    let mut i: u32 = 0;
-    while i < n {
+    for i in 0..n {
         let s = total_of(totals, i);
         add(t, i as usize, i, s);
-        i += 1;
     }
 }

@@ -94,14 +94,13 @@ pub fn rows_size(tree: &[u8], lent: &[u8], n: usize, limits: Limits) -> RowsSize
 {
     let mut count: usize = 0;
     let mut bytes: usize = 0;
-    let mut k: usize = 0;
-    while k < n {
+    for k in 0..n {
         let f = functions::function_at(tree, lent, k);
-        k += 1;
-        if functions::is_over(limits, f) {
-            count += 1;
-            bytes += row_length(f);
+        if !functions::is_over(limits, f) {
+            continue;
         }
+        count += 1;
+        bytes += row_length(f);
     }
     RowsSize { count, bytes }
 }

@@ -1,5 +1,5 @@
 -- `batches::put_batch` meets its contract: the lines of the keys in front stand one behind the other.
-use Prim.Native.Nat.{◌+◌, ◌-◌, ◌≤◌}
+use Prim.Native.Nat.{◌+◌, ◌≤◌}
 use mathlib.Core.Path.{◌≡◌}
 use lib.ListN.{length, take}
 use Rattle.text_rules.specs.Bytes.{put_at}
@@ -13,6 +13,3 @@ invariant-loop-i l =
     × (l.done ≡ l.at + length (key_lines (take l.i (keys_at l.lines l.starts l.ends l.m))))
     × (l.out ≡ put_at l.at (key_lines (take l.i (keys_at l.lines l.starts l.ends l.m))) l.initial.out)
     × (length l.out ≡ length l.initial.out)
-
-abbrev pub decreases-loop-i : goal.decreases-loop-i
-decreases-loop-i l = l.m - l.i

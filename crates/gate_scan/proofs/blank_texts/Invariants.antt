@@ -9,6 +9,3 @@ use Rattle.gate_scan.proofs.blank_texts.Given as goal
 abbrev pub invariant-loop-k : goal.invariant-loop-k
 invariant-loop-k l =
     (l.k ≤ l.n) × (length l.work ≡ length l.initial.work) × (blank_into (sources_from l.tree (l.n - l.k) l.k (4 + 16 * l.k)) l.work ≡ blank_into (sources l.tree) l.initial.work)
-
-abbrev pub decreases-loop-k : goal.decreases-loop-k
-decreases-loop-k l = l.n - l.k

@@ -22,6 +22,3 @@ invariant-loop-file l =
     × (length l.noted ≡ 4099)
     × (length l.sums ≡ 36865)
     × (length l.kept ≡ 259)
-
-abbrev pub decreases-loop-file : goal.decreases-loop-file
-decreases-loop-file l = l.n - l.file

@@ -1,5 +1,5 @@
 -- `live::any_has` meets its contract: none of the functions that were asked has the key.
-use Prim.Native.Nat.{◌-◌, ◌≤◌}
+use Prim.Native.Nat.{◌≤◌}
 use Rattle.gate_rules.specs.Gate.{gate}
 use Rattle.gate_rules.specs.Scan.{functions_of}
 use Rattle.live.specs.Live.{NoneHas}
@@ -7,6 +7,3 @@ use Rattle.live.proofs.any_has.Given as goal
 
 abbrev pub invariant-loop-k : goal.invariant-loop-k
 invariant-loop-k l = (l.from ≤ l.k) × NoneHas l.bytes (functions_of gate l.tree) l.from l.k
-
-abbrev pub decreases-loop-k : goal.decreases-loop-k
-decreases-loop-k l = l.to - l.k

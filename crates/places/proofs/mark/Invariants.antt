@@ -1,5 +1,4 @@
 -- `places::mark` meets its contract: at each turn the functions in front of k have their places.
-use Prim.Native.Nat.{◌-◌}
 use Rattle.gate_rules.specs.Gate.{gate}
 use Rattle.gate_rules.specs.Scan.{functions_of}
 use Rattle.places.specs.Marking.{Marked}
@@ -7,6 +6,3 @@ use Rattle.places.proofs.mark.Given as goal
 
 abbrev pub invariant-loop-k : goal.invariant-loop-k
 invariant-loop-k l = Marked l.bytes l.place (functions_of gate l.tree) l.initial.places l.k l.places
-
-abbrev pub decreases-loop-k : goal.decreases-loop-k
-decreases-loop-k l = l.to - l.k

@@ -1,5 +1,5 @@
 -- `ranking::set_leaves` meets its contract: at each turn the leaves before k are set.
-use Prim.Native.Nat.{◌-◌, ◌≤◌}
+use Prim.Native.Nat.{◌≤◌}
 use mathlib.Core.Path.{◌≡◌}
 use lib.ListN.{length}
 use Rattle.functions.specs.Shown.{limits_of}
@@ -8,6 +8,3 @@ use Rattle.ranking.proofs.set_leaves.Given as goal
 
 abbrev pub invariant-loop-k : goal.invariant-loop-k
 invariant-loop-k l = (l.k ≤ l.n) × (length l.nodes ≡ length l.initial.nodes) × Entered (limits_of l.limits) l.tree l.k l.nodes
-
-abbrev pub decreases-loop-k : goal.decreases-loop-k
-decreases-loop-k l = l.n - l.k

@@ -1,5 +1,5 @@
 -- `regressions::measure` meets its contract: what is counted, and what the functions still to come have, is the whole.
-use Prim.Native.Nat.{◌*◌, ◌+◌, ◌-◌, ◌≤◌}
+use Prim.Native.Nat.{◌*◌, ◌+◌, ◌≤◌}
 use mathlib.Core.Path.{◌≡◌}
 use lib.ListN.{length}
 use Rattle.gate_rules.specs.Baseline.{entries_of_lines}
@@ -15,6 +15,3 @@ invariant-loop-k l =
     let here = left (limits_of l.limits) (entries_of_lines l.lines) (functions_of gate l.tree) l.k in
     let all = regressions (limits_of l.limits) (entries_of_lines l.lines) (functions_of gate l.tree) in
     (l.k ≤ l.n) × (l.count + length here ≡ length all) × (l.bytes + length (listed here) ≡ length (listed all)) × (l.count ≤ 2 * l.k) × (l.bytes ≤ 80000000 * l.k)
-
-abbrev pub decreases-loop-k : goal.decreases-loop-k
-decreases-loop-k l = l.n - l.k

@@ -1,6 +1,6 @@
 -- what it was.
 -- `regressions::put_all` meets its contract: what the functions still to come have, put into what the output has become, makes the same as all lines put into
-use Prim.Native.Nat.{◌+◌, ◌-◌, ◌≤◌}
+use Prim.Native.Nat.{◌+◌, ◌≤◌}
 use mathlib.Core.Path.{◌≡◌}
 use lib.ListN.{length}
 use Rattle.text_rules.specs.Bytes.{put_at}
@@ -17,6 +17,3 @@ invariant-loop-k l =
     let here = left (limits_of l.limits) (entries_of_lines l.lines) (functions_of gate l.tree) l.k in
     let all = regressions (limits_of l.limits) (entries_of_lines l.lines) (functions_of gate l.tree) in
     (l.k ≤ l.n) × (length l.out ≡ length l.initial.out) × (l.next + length (listed here) ≡ l.at + length (listed all)) × (put_at l.next (listed here) l.out ≡ put_at l.at (listed all) l.initial.out)
-
-abbrev pub decreases-loop-k : goal.decreases-loop-k
-decreases-loop-k l = l.n - l.k

@@ -1,11 +1,11 @@
 -- `report_files::heaviest_files` meets its contract: at each turn the files listed, and those that are left in their order, are all.
 use Prim.Native.Nat.{◌<◌, ◌≤◌}
-use mathlib.Core.Path.{◌∙◌, ◌≡◌, refl, sym}
+use mathlib.Core.Path.{◌∙◌, ◌≡◌, refl, subst, sym}
 use mathlib.Core.Logic.{⊎_elim}
 use native.Mathlib.Nat.{eq-or-lt_of_le}
 use native.Mathlib.Omega.{arith}
 use Rattle.gate_rules.specs.Tree.{file_count}
-use Rattle.report_files.specs.Files.{heavy_end, heavy_ten, listing-next, listing_none}
+use Rattle.report_files.specs.Files.{Heavy, heavy_end, heavy_ten, listing-next, listing_none}
 use Rattle.report_files.proofs.heaviest_files.Goals as goal
 
 pub loop-done-init : goal.loop-done-init
@@ -25,12 +25,6 @@ offset_bounds-files-done c = omega (arith, c.loop-done.invariant.few)
 pub bounds-files-done : goal.bounds-files-done
 bounds-files-done c = omega (arith, c.loop-done.invariant.size)
 
-pub overflow_add-done : goal.overflow_add-done
-overflow_add-done c = omega (arith, c.loop-done.invariant.few)
-
-pub loop-done-smaller : goal.loop-done-smaller
-loop-done-smaller c = omega arith
-
 pub loop-done-preserved : goal.loop-done-preserved
 loop-done-preserved c =
     let n = c.next_file-last.ensures in
@@ -41,4 +35,5 @@ loop-done-preserved c =
 
 pub returns : goal.returns
 returns c =
-    heavy_ten c.args.tree.now c.loop-done.done c.loop-done.last c.loop-done.files c.loop-done.invariant (omega arith)
+    let ten : c.loop-done.done ≡ 10 = omega (arith, c.loop-done-test.false, c.loop-done.invariant.few) in
+    subst (λ d. Heavy c.args.tree.now d c.loop-done.files) ten (heavy_ten c.args.tree.now c.loop-done.done c.loop-done.last c.loop-done.files c.loop-done.invariant (omega arith))

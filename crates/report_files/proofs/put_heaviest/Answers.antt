@@ -30,12 +30,6 @@ put_file_row-end-requires c =
           (rows_step a.tree.now a.h.count a.h.files c.requires.1 c.loop-i.i (omega arith)),
     )
 
-pub overflow_add-i : goal.overflow_add-i
-overflow_add-i c = omega (arith, c.loop-i.invariant.1.few)
-
-pub loop-i-smaller : goal.loop-i-smaller
-loop-i-smaller c = omega arith
-
 pub loop-i-preserved : goal.loop-i-preserved
 loop-i-preserved c =
     let a = c.args in

@@ -23,12 +23,6 @@ counted-c-requires c =
     let room = branches_room (limits_of a.limits) (functions_of gate a.tree.now) c.loop-k.k (omega arith) c.loop-k.c n in
     (f.1, size.1, omega (arith, n.few, c.requires.0.few), omega (arith, n.short, c.requires.0.few), omega (arith, room, size, ap (λ g. g.cyclomatic) f.0))
 
-pub overflow_add-k : goal.overflow_add-k
-overflow_add-k c = omega arith
-
-pub loop-k-smaller : goal.loop-k-smaller
-loop-k-smaller c = omega arith
-
 pub loop-k-preserved : goal.loop-k-preserved
 loop-k-preserved c =
     let a = c.args in

@@ -1,5 +1,5 @@
 -- `report_functions::count` meets its contract: at each turn what is counted, and what is to be counted of the functions left, make the whole.
-use Prim.Native.Nat.{◌-◌, ◌≤◌}
+use Prim.Native.Nat.{◌≤◌}
 use Rattle.gate_rules.specs.Gate.{gate}
 use Rattle.gate_rules.specs.Scan.{functions_of}
 use Rattle.functions.specs.Shown.{limits_of}
@@ -8,6 +8,3 @@ use Rattle.report_functions.proofs.count.Given as goal
 
 abbrev pub invariant-loop-k : goal.invariant-loop-k
 invariant-loop-k l = (l.k ≤ l.n) × Counting (limits_of l.limits) (functions_of gate l.tree) l.k l.c
-
-abbrev pub decreases-loop-k : goal.decreases-loop-k
-decreases-loop-k l = l.n - l.k

@@ -35,12 +35,6 @@ offset_bounds-of-file-in-loop-k c = omega arith
 pub bounds-of-file-in-loop-k : goal.bounds-of-file-in-loop-k
 bounds-of-file-in-loop-k c = omega (arith, c.loop-k.invariant.1.size)
 
-pub overflow_add-k : goal.overflow_add-k
-overflow_add-k c = omega arith
-
-pub loop-k-smaller : goal.loop-k-smaller
-loop-k-smaller c = omega arith
-
 pub loop-k-preserved : goal.loop-k-preserved
 loop-k-preserved c =
     let tree = c.args.tree.now in

@@ -1,5 +1,5 @@
 -- `sums::fill` meets its contract: at each turn the entries before `i` are filled, and those beyond stand as they stood.
-use Prim.Native.Nat.{◌-◌, ◌≤◌}
+use Prim.Native.Nat.{◌≤◌}
 use mathlib.Core.Path.{◌≡◌}
 use Rattle.text_rules.specs.Bytes.{overwritten}
 use Rattle.sums.specs.Sums.{first_entries}
@@ -7,6 +7,3 @@ use Rattle.sums.proofs.fill.Given as goal
 
 abbrev pub invariant-loop-i : goal.invariant-loop-i
 invariant-loop-i l = (l.i ≤ l.n) × (l.t ≡ overwritten (first_entries l.totals.of l.i) l.initial.t)
-
-abbrev pub decreases-loop-i : goal.decreases-loop-i
-decreases-loop-i l = l.n - l.i

@@ -24,7 +24,7 @@ overflow_add-count c =
     let fs = functions_of gate tree in
     let k = c.loop-k.k in
     let e = c.function_at-f.ensures.0 in
-    let is_over : over L (get_or fs k no_fun) ≡ true = sym (ap (over L) e) ∙ sym (c.is_over.ensures tree) ∙ c.if-is_over.true in
+    let is_over : over L (get_or fs k no_fun) ≡ true = sym (ap (over L) e) ∙ sym (c.is_over.ensures tree) ∙ c.if-not-is_over.false in
     record { fits = omega (arith, c.loop-k.invariant.1, count-over L fs k (omega (arith, c.requires.1)) is_over, rows_few L tree a.lent.now c.requires.0) }
 
 pub row_length-bytes-requires : goal.row_length-bytes-requires
@@ -40,21 +40,9 @@ overflow_add-bytes c =
     let fs = functions_of gate tree in
     let k = c.loop-k.k in
     let e = c.function_at-f.ensures.0 in
-    let is_over : over L (get_or fs k no_fun) ≡ true = sym (ap (over L) e) ∙ sym (c.is_over.ensures tree) ∙ c.if-is_over.true in
+    let is_over : over L (get_or fs k no_fun) ≡ true = sym (ap (over L) e) ∙ sym (c.is_over.ensures tree) ∙ c.if-not-is_over.false in
     let size = c.row_length-bytes.ensures tree c.function_at-f.ensures.1 ∙ ap lined_length e in
     record { fits = omega (arith, c.loop-k.invariant.2, size, bytes_over L fs k (omega (arith, c.requires.1)) is_over, rows_short L tree a.lent.now c.requires.0) }
-
-pub loop-k-preserved-then-is_over : goal.loop-k-preserved-then-is_over
-loop-k-preserved-then-is_over c =
-    let a = c.args in
-    let tree = a.tree.now in
-    let L = limits_of a.limits in
-    let fs = functions_of gate tree in
-    let k = c.loop-k.k in
-    let e = c.function_at-f.ensures.0 in
-    let is_over : over L (get_or fs k no_fun) ≡ true = sym (ap (over L) e) ∙ sym (c.is_over.ensures tree) ∙ c.if-is_over.true in
-    let size = c.row_length-bytes.ensures tree c.function_at-f.ensures.1 ∙ ap lined_length e in
-    (omega arith, omega (arith, c.loop-k.invariant.1, count-over L fs k (omega (arith, c.requires.1)) is_over), omega (arith, c.loop-k.invariant.2, size, bytes_over L fs k (omega (arith, c.requires.1)) is_over))
 
 pub loop-k-preserved : goal.loop-k-preserved
 loop-k-preserved c =
@@ -64,7 +52,19 @@ loop-k-preserved c =
     let fs = functions_of gate tree in
     let k = c.loop-k.k in
     let e = c.function_at-f.ensures.0 in
-    let is_under : over L (get_or fs k no_fun) ≡ false = sym (ap (over L) e) ∙ sym (c.is_over.ensures tree) ∙ c.if-is_over.false in
+    let is_over : over L (get_or fs k no_fun) ≡ true = sym (ap (over L) e) ∙ sym (c.is_over.ensures tree) ∙ c.if-not-is_over.false in
+    let size = c.row_length-bytes.ensures tree c.function_at-f.ensures.1 ∙ ap lined_length e in
+    (omega arith, omega (arith, c.loop-k.invariant.1, count-over L fs k (omega (arith, c.requires.1)) is_over), omega (arith, c.loop-k.invariant.2, size, bytes_over L fs k (omega (arith, c.requires.1)) is_over))
+
+pub loop-k-preserved-then-not-is_over : goal.loop-k-preserved-then-not-is_over
+loop-k-preserved-then-not-is_over c =
+    let a = c.args in
+    let tree = a.tree.now in
+    let L = limits_of a.limits in
+    let fs = functions_of gate tree in
+    let k = c.loop-k.k in
+    let e = c.function_at-f.ensures.0 in
+    let is_under : over L (get_or fs k no_fun) ≡ false = sym (ap (over L) e) ∙ sym (c.is_over.ensures tree) ∙ c.if-not-is_over.true in
     (omega arith, omega (arith, c.loop-k.invariant.1, count_under L fs k (omega (arith, c.requires.1)) is_under), omega (arith, c.loop-k.invariant.2, bytes_under L fs k (omega (arith, c.requires.1)) is_under))
 
 pub returns : goal.returns

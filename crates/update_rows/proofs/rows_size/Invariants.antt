@@ -1,5 +1,5 @@
 -- `update_rows::rows_size` meets its contract: what is counted and what is left are all rows.
-use Prim.Native.Nat.{◌+◌, ◌-◌, ◌≤◌}
+use Prim.Native.Nat.{◌+◌, ◌≤◌}
 use mathlib.Core.Path.{◌≡◌}
 use Rattle.gate_rules.specs.Gate.{gate}
 use Rattle.gate_rules.specs.Scan.{functions_of}
@@ -12,6 +12,3 @@ invariant-loop-k l =
     let L = limits_of l.limits in
     let fs = functions_of gate l.tree in
     (l.k ≤ l.n) × (l.count + left_count L fs l.k ≡ left_count L fs 0) × (l.bytes + left_bytes L fs l.k ≡ left_bytes L fs 0)
-
-abbrev pub decreases-loop-k : goal.decreases-loop-k
-decreases-loop-k l = l.n - l.k
