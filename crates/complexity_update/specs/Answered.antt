@@ -32,6 +32,10 @@ abbrev pub FileLies : Option ℕ → List ℕ → Type 0
 FileLies None output = Unit {0}
 FileLies (Some n) output = IsPrefixLen n output
 
+-- no byte of the output
+pub none-counts : (n : ℕ) (s : List ℕ) → n ≡ 0 → IsPrefixLen n s
+none-counts n s e = let within : n ≤ length s = omega (arith, e) in (within, sym (length-take-le n s within))
+
 -- where none is written, none is told
 pub no-file : (f : Option ℕ) (output : List ℕ) → f ≡ None → FileLies f output × (file_of f output ≡ none)
 no-file None output e = (tt, refl)

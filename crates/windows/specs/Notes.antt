@@ -36,7 +36,7 @@ set_pair m i first second = set (set m (2 + i) first) (2050 + i) second
 abbrev pub Reads : (first second : ℕ) → Note → Type 0
 Reads first second Nothing = first ≡ 0
 Reads first second Broken = first ≡ never
-Reads first second (Closed partner) = (first ≡ partner + 1) × (first ≢ never)
+Reads first second (Closed partner) = (first ≡ partner + 1) × (first ≢ never) × (second ≡ 0)
 Reads first second (Whole partner brace) = (first ≡ partner + 1) × (first ≢ never) × (second ≡ brace + 1)
 
 -- what is noted of a place: what its own numbers tell, or nothing
