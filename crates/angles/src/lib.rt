@@ -1,5 +1,5 @@
-// Angle brackets that are open while some searches go on, in groups. A search is inside those that were opened since it began, and how many these are is
-// told for all searches together.
+// Angle brackets that are open while some searches go on, in groups. A search is inside those that were opened since it began, and how many these
+// are is told for all searches together.
 #![tactic(auto)]
 
 ghost use Rattle.std.specs.Prelude.{◌≡◌, ℕ, ◌+◌, ◌≤◌, ◌<◌, MatchOption};

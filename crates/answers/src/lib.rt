@@ -15,7 +15,7 @@ pub enum Refusal {
     Path,
     // a text of the tree is not UTF-8
     Text,
-    // work is shorter than the tree, or the output of blanking than its text
+    // work is shorter than the tree, the output of blanking than its text, or what is lent for counts than the counts
     Work,
     // fewer sums are lent than the tree has files
     Sums,

@@ -3,3 +3,4 @@ mod KeyBounds
 mod Keys
 mod Numbers
 mod PlainLines
+mod Places

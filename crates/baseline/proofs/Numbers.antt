@@ -1,16 +1,15 @@
 -- A number as a loop reads it: the digits behind stand for n, those ahead go on from it.
 use Prim.Native.Nat.{ℕ, ◌+◌, ◌*◌, ◌-◌, ◌≤◌, ◌<◌}
-use mathlib.Core.Path.{◌≡◌, refl, ap, sym, ◌∙◌}
+use mathlib.Core.Path.{◌≡◌, refl, ap, ◌∙◌}
 use mathlib.Core.Bool.{Bool, true, false, ◌&&◌}
 use mathlib.Core.List.{List, [], ◌∷◌}
 use mathlib.Core.Option.{Option, none, some}
 use native.Mathlib.Omega.{arith}
 use lib.Dec.{leb}
 use lib.ListN.{length, drop, get_or, drop_of_length-le}
-use borrow.Author.Tests.{eq-eqb, le-leb, leb-true, lt-leb, ne_eqb}
-use mathlib.Core.Logic.{inl, inr}
+use borrow.Author.Tests.{eq-eqb, le-leb, lt-leb, ne_eqb}
+use mathlib.Core.Logic.{◌⊎◌, inl, inr}
 use Rattle.text_rules.specs.Bytes.{if◌then◌otherwise◌}
-use Rattle.text_rules.specs.BytesLaws.{and_left, whether}
 use Rattle.text_rules.specs.Classes.{is_digit}
 use Rattle.text_rules.specs.Decimal.{all_digits, is_numeral, numeral, parse_number, value_from, without_plus}
 use Rattle.text_rules.proofs.ScanLaws.{split}
@@ -49,6 +48,10 @@ module _ (limit n : ℕ) (s : List ℕ) (i : ℕ) (h : i < length s) where
   pub digit_past : limit < n * 10 + (get_or s i 0 - 48) → numeral_from limit n (drop i s) ≡ none
   digit_past e = ap (numeral_from limit n) (split s i h) ∙ past limit n (get_or s i 0) (drop (i + 1) s) e
 
+  pub digit_refused : (is_digit (get_or s i 0) ≡ false) ⊎ (limit < n * 10 + (get_or s i 0 - 48)) → numeral_from limit n (drop i s) ≡ none
+  digit_refused (inl e) = digit_none e
+  digit_refused (inr e) = digit_past e
+
   pub digit_next : is_digit (get_or s i 0) ≡ true → numeral_from limit n (drop i s) ≡ numeral_from limit (n * 10 + (get_or s i 0 - 48)) (drop (i + 1) s)
   unfolding all_digits value_from
   digit_next e = rw (split s i h, e)
@@ -66,22 +69,3 @@ pub plus_none : (limit : ℕ) (s : List ℕ) → (get_or s 0 0 ≡ 43 → ⊥) �
 unfolding parse_number without_plus
 plus_none limit [] e = refl
 plus_none limit (b ∷ s) e = rw (ne_eqb b 43 e)
-
-pub digit_least : (b : ℕ) → is_digit b ≡ true → 48 ≤ b
-unfolding is_digit
-digit_least b e = leb-true 48 b (and_left (leb 48 b) (leb b 57) e)
-
--- two tests that ask the same
-pub leb_same : (a b c d : ℕ) → (a ≤ b → c ≤ d) → (c ≤ d → a ≤ b) → leb a b ≡ leb c d
-leb_same a b c d to back =
-    elim (whether (leb a b)) [
-      | inl t ↦ t ∙ sym (le-leb c d (to (leb-true a b t)))
-      | inr t ↦
-          elim (whether (leb c d)) [
-            | inl u ↦ le-leb a b (back (leb-true c d u)) ∙ sym u
-            | inr u ↦ t ∙ sym u
-          ]
-    ]
-
-pub numeral_from-same : (limit n d e : ℕ) (s : List ℕ) → d ≡ e → numeral_from limit (n * 10 + d) s ≡ numeral_from limit (n * 10 + e) s
-numeral_from-same limit n d e s q = ap (λ (i : ℕ). numeral_from limit (n * 10 + i) s) q

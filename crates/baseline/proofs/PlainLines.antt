@@ -18,7 +18,7 @@ use Rattle.text_rules.proofs.ScanLaws.{bytes_before-stop, run_end}
 use Rattle.text_rules.specs.Search.{bytes_before, part}
 use Rattle.baseline.specs.Plain.{Digits, Front, NumberField, PlainLine, Text, to-mark}
 use Rattle.baseline.specs.Reads.{Inside}
-use Rattle.baseline.specs.declared.Line.TheVariants.{Entry as EntryOf}
+use Rattle.std.specs.Prelude.{Some}
 use Rattle.baseline.specs.declared.Listed.{Listed}
 use Rattle.baseline.specs.Fields.{both_read, four-fields}
 use Rattle.baseline.proofs.KeyBounds.{key-some}
@@ -177,8 +177,8 @@ module _ (s : List ℕ) (from a b c d : ℕ) (f : Front s from a b) (mb : get_or
       let y = field_read_lem s from d h k 18446744073709551615 (c - from + 1) (d - from) (omega arith) (omega (arith, order)) (omega (arith, order, n.few)) (omega (arith, order))
       (λ i o p. n.digits i (omega arith) (omega arith)) in
       let listed : Listed = record { path_end = a - from; name_end = b - from; cyclomatic = value_from 0 (part (b - from + 1) (c - from) line); lines = value_from 0 (part (c - from + 1) (d - from) line) } in
-      let inside : Inside line (EntryOf listed) = (omega (arith, order), omega (arith, order, size), line-byte s from d h k (a - from) (omega (arith, order)) ∙ ta) in
-      let key = key-some s from d k (EntryOf listed) inside (both_read _ _ _ _ _ _ x y ∙ sym fields) listed refl in
+      let inside : Inside line (Some listed) = (omega (arith, order), omega (arith, order, size), line-byte s from d h k (a - from) (omega (arith, order)) ∙ ta) in
+      let key = key-some s from d k (Some listed) inside (both_read _ _ _ _ _ _ x y ∙ sym fields) listed refl in
       record {
         front = subst (λ (j : ℕ). Front s from j b) (sym la) f;
         stop = mb;

@@ -1,5 +1,6 @@
 -- The entry of a line by the places where its fields end, and its key.
-use Rattle.std.specs.Prelude.{ℕ, ◌+◌, ◌-◌, ◌≤◌, ◌<◌, ◌≡◌, refl, List, [], ◌∷◌, ◌++◌, eqb, ltb, length, take, drop, get_or}
+use Rattle.std.specs.Prelude.{ℕ, None, Some, ◌+◌, ◌-◌, ◌≤◌, ◌<◌, ◌≡◌, refl, List, [], ◌∷◌, ◌++◌, eqb, ltb, length, take, drop, get_or}
+use Rattle.std.specs.Prelude.{Option as Read}
 use Rattle.std.proofs.Math.Path.{ap}
 use Rattle.std.proofs.Common.{ap₂, sym, ◌∙◌, inl, inr, arith}
 use Rattle.std.proofs.Math.Option.{Option, none, some}
@@ -11,13 +12,11 @@ use Rattle.text_rules.specs.Lines.{fields, split}
 use Rattle.text_rules.specs.Search.{bytes_before, part}
 use Rattle.gate_rules.specs.Baseline.{entry_of, entry_of_fields, entry_with}
 use Rattle.gate_rules.specs.Functions.{is_comment, key_of}
-use Rattle.baseline.specs.Reads.{Inside, number_of}
-use Rattle.baseline.specs.declared.Line.TheVariants.{Entry as EntryOf}
+use Rattle.baseline.specs.Reads.{Inside, PathEnds, entry_in, number_of}
 use Rattle.baseline.specs.declared.Listed.{Listed}
-use Rattle.baseline.specs.declared.Numeral.{Numeral}
 
 -- what was read of a number field
-pub was_read : (p q : Numeral) (x : Option ℕ) → number_of p ≡ x → p ≡ q → x ≡ number_of q
+pub was_read : (p q : Read ℕ) (x : Option ℕ) → number_of p ≡ x → p ≡ q → x ≡ number_of q
 was_read p q x e f = sym e ∙ ap number_of f
 
 module _ (path name : List ℕ) (x y : Option ℕ) where
@@ -29,6 +28,10 @@ module _ (path name : List ℕ) (x y : Option ℕ) where
 
   pub first_bad : x ≡ none → none ≡ entry_with path name x y
   first_bad e = sym (ap (λ z. entry_with path name z y) e)
+
+-- a line of which no entry was read has none
+pub no_entry_reads : (line : List ℕ) (r : Read Listed) (a : ℕ) → entry_of line ≡ none → r ≡ None → Inside line r × (entry_in line r ≡ entry_of line) × PathEnds r a
+no_entry_reads line r a e h = rw h (tt, sym e, tt)
 
 first_byte : (line : List ℕ) → is_comment line ≡ eqb (get_or line 0 0) 35
 unfolding is_comment
@@ -81,7 +84,7 @@ module _ (line : List ℕ) where
             second _ (piece-next 9 line (b + 1) c ec kc ∙ ap (λ r. part (b + 1) c line ∷ r) e)
 
 -- the key of an entry stands in its line as it is: path, tab and name
-pub own_key : (line : List ℕ) (l : Listed) → Inside line (EntryOf l) → key_of (part 0 l.path_end line) (part (l.path_end + 1) l.name_end line) ≡ take l.name_end line
+pub own_key : (line : List ℕ) (l : Listed) → Inside line (Some l) → key_of (part 0 l.path_end line) (part (l.path_end + 1) l.name_end line) ≡ take l.name_end line
 own_key line l h =
     let m : ℕ = l.path_end in
     let n : ℕ = l.name_end in

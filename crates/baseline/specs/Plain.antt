@@ -1,5 +1,5 @@
 -- A line in the form in which update writes it, read in one walk: path, name and two numbers, a tab between each two of them, and LF behind them.
-use Rattle.std.specs.Prelude.{ℕ, zero, suc, ◌+◌, ◌<◌, ◌≤◌, ◌≡◌, ◌≢◌, true, List, ltb, length, drop, get_or}
+use Rattle.std.specs.Prelude.{ℕ, zero, suc, ◌+◌, ◌<◌, ◌≤◌, ◌≡◌, ◌≢◌, true, List, Option, Some, None, ltb, length, drop, get_or}
 use Rattle.std.proofs.Common.{ap, subst, ◌∙◌, inl, inr, arith, ltb-false, ltb-true}
 use Rattle.std.proofs.Math.Option.{some}
 use Rattle.text_rules.specs.BytesLaws.{whether}
@@ -8,10 +8,8 @@ use Rattle.text_rules.proofs.ScanLaws.{bytes_before-more}
 use Rattle.text_rules.specs.Search.{bytes_before, part}
 use Rattle.gate_rules.specs.Baseline.{entry_of}
 use Rattle.baseline.specs.Reads.{KeyFrom, key_of_entry, line_at}
-use Rattle.baseline.specs.declared.Key.{Key}
-use Rattle.baseline.specs.declared.Key.TheVariants.{Bytes, Nothing}
-use Rattle.baseline.specs.declared.Plain.{Plain}
-use Rattle.baseline.specs.declared.Plain.TheVariants.{Line, Other}
+use Rattle.baseline.specs.declared.Bounds.{Bounds}
+use Rattle.baseline.specs.declared.Span.{Span}
 
 -- from one place up to another no byte is a tab or an LF, nor one below them
 abbrev pub Text : List ℕ → (from to : ℕ) → Type 0
@@ -40,9 +38,9 @@ pub record Front (s : List ℕ) (from a at : ℕ) : Type 0 where
   pub inside : at ≤ length s
 
 -- a key that is told by its bounds is a path, a tab and a name without a tab or an LF
-abbrev pub PlainKey : List ℕ → Key → (path : ℕ) → Type 0
-PlainKey s (Bytes a b) path = Front s a (a + path) b
-PlainKey s Nothing path = ⊥
+abbrev pub PlainKey : List ℕ → Option Span → (path : ℕ) → Type 0
+PlainKey s (Some k) path = Front s k.from (k.from + path) k.to
+PlainKey s None path = ⊥
 
 -- a line with an entry: where it ends, its path and its key
 pub record PlainLine (s : List ℕ) (from path name end : ℕ) : Type 0 where
@@ -53,11 +51,11 @@ pub record PlainLine (s : List ℕ) (from path name end : ℕ) : Type 0 where
   pub whole : part from end s ≡ line_at s from end
   pub path-is : path ≡ bytes_before tab (part from end s)
   pub key-is : some (part from name s) ≡ key_of_entry (entry_of (part from end s))
-  pub key_in : KeyFrom (Bytes from name) from end path
+  pub key_in : KeyFrom (Some (record { from = from; to = name })) from end path
 
-abbrev pub ReadPlain : List ℕ → (from : ℕ) → Plain → Type 0
-ReadPlain s from (Line l) = PlainLine s from l.path l.name l.end
-ReadPlain s from Other = Unit {0}
+abbrev pub ReadPlain : List ℕ → (from : ℕ) → Option Bounds → Type 0
+ReadPlain s from (Some l) = PlainLine s from l.path l.name l.end
+ReadPlain s from None = Unit {0}
 
 -- what holds of the bytes up to a place, after one byte more
 pub each_next : (P : ℕ → Type 0) (s : List ℕ) (from at : ℕ) → ((i : ℕ) → from ≤ i → i < at → P (get_or s i 0)) → P (get_or s at 0)

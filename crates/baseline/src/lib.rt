@@ -1,7 +1,7 @@
 // The baseline: its lines and their fields by their bounds, its numbers and its keys. Nothing is copied.
 #![tactic(auto)]
 
-ghost use Rattle.std.specs.Prelude.{◌≡◌, true, ◌+◌, ◌*◌, ◌-◌, ◌≤◌, ◌<◌, leb, length, drop, get_or};
+ghost use Rattle.std.specs.Prelude.{◌≡◌, ℕ, true, false, ◌+◌, ◌*◌, ◌-◌, ◌≤◌, ◌<◌, ◌⊎◌, length, drop, get_or, MatchOption, IfSome};
 ghost use Rattle.text_rules.specs.Bytes.{same};
 ghost use Rattle.text_rules.specs.Classes.{is_digit, lf, tab};
 ghost use Rattle.text_rules.specs.Decimal.{numeral, parse_number};
@@ -20,25 +20,14 @@ const CR: u8 = b'\r';
 
 const HASH: u8 = b'#';
 
-const PLUS: u8 = b'+';
-
-const MAX_U32: u64 = 4294967295;
-
-const MAX_U64: u64 = 18446744073709551615;
+const MAX_U32: u64 = u32::MAX as u64;
 
 // The place of the next `x`, or the text's length.
 fn next(s: &[u8], from: usize, x: u8) -> usize
     requires { from ≤ length s.now }
     ensures { (result ≡ from + bytes_before x (drop from s.now)) × (from ≤ result) × (result ≤ length s.now) }
 {
-    let mut at = from;
-    while at < s.len() {
-        if s[at] == x {
-            return at;
-        }
-        at += 1;
-    }
-    at
+    seek::end_while(s, from, |b| b != x)
 }
 
 // Where a line ends: at the next LF, or at the end of the text.
@@ -74,66 +63,39 @@ pub fn field_end(line: &[u8], from: usize) -> usize
     next(line, from, TAB)
 }
 
-// A number field.
-#[derive(Drop)]
-pub enum Numeral {
-    Value(u64),
-    Bad,
-}
-
-fn is_digit(b: u8) -> bool
-    ensures { result ≡ is_digit b }
+// A number with one digit more, within the limit. It may be past the largest u64.
+#[tactic(auto, unfolding(text_rules::specs::Classes::is_digit))]
+fn with_digit(n: u64, b: u8, limit: u64) -> Option<u64>
+    ensures { MatchOption result
+        ((is_digit b ≡ false) ⊎ (limit < n * 10 + (b - 48)))
+        (λ m. (is_digit b ≡ true) × (m ≡ n * 10 + (b - 48)) × (m ≤ limit)) }
 {
-    if b'0' <= b { b <= b'9' } else { false }
-}
-
-// What a digit stands for.
-fn digit(b: u8) -> u64
-    requires { is_digit b ≡ true }
-    ensures { result ≡ b - 48 }
-{
-    (b - b'0') as u64
-}
-
-// Whether a number with one digit more is within the limit. The number itself may be past the largest u64.
-fn fits(n: u64, d: u64, limit: u64) -> bool
-    ensures { result ≡ leb (n * 10 + d) limit }
-{
-    if limit / 10 < n {
-        return false;
+    if !b.is_ascii_digit() {
+        return None;
     }
-    d <= limit - n * 10
+    let more = n.checked_mul(10)?.checked_add(u64::from(b - b'0'))?;
+    if more <= limit { Some(more) } else { None }
 }
 
 // One or more digits, within the limit. A number only grows with its digits, so one that is past the limit stays past it.
-fn digits(s: &[u8], limit: u64) -> Numeral
+fn digits(s: &[u8], limit: u64) -> Option<u64>
     ensures { number_of result ≡ numeral limit s.now }
 {
-    if s.len() == 0 {
-        return Numeral::Bad;
+    if s.is_empty() {
+        return None;
     }
-    let mut n: u64 = 0;
-    let mut i = 0;
-    while i < s.len() {
-        let b = s[i];
-        if !is_digit(b) {
-            return Numeral::Bad;
-        }
-        let d = digit(b);
-        if !fits(n, d, limit) {
-            return Numeral::Bad;
-        }
-        n = n * 10 + d;
-        i += 1;
+    let mut n = 0;
+    for b in s {
+        n = with_digit(n, *b, limit)?;
     }
-    Numeral::Value(n)
+    Some(n)
 }
 
 // One or more digits after an optional `+`, within the limit.
-pub fn number(s: &[u8], limit: u64) -> Numeral
+pub fn number(s: &[u8], limit: u64) -> Option<u64>
     ensures { number_of result ≡ parse_number limit s.now }
 {
-    if seek::byte(s, 0) == PLUS {
+    if seek::byte(s, 0) == b'+' {
         return digits(&s[1..], limit);
     }
     digits(s, limit)
@@ -148,14 +110,8 @@ pub struct Listed {
     pub lines: u64,
 }
 
-#[derive(Drop)]
-pub enum Line {
-    Entry(Listed),
-    Nothing,
-}
-
 // The entry of a line with four fields that end at the four places, if both numbers are read.
-fn measured(line: &[u8], a: usize, b: usize, c: usize, d: usize) -> Line
+fn measured(line: &[u8], a: usize, b: usize, c: usize, d: usize) -> Option<Listed>
     requires { (a < b) × (b < c) × (c < d) × (d ≤ length line.now) × (get_or line.now a 0 ≡ tab) }
     ensures { Inside line.now result
         × (entry_in line.now result ≡ entry_with (part 0 a line.now) (part (a + 1) b line.now)
@@ -163,50 +119,45 @@ fn measured(line: &[u8], a: usize, b: usize, c: usize, d: usize) -> Line
         (parse_number 18446744073709551615 (part (c + 1) d line.now)))
         × PathEnds result a }
 {
-    let first = number(&line[b + 1..c], MAX_U32);
-    let second = number(&line[c + 1..d], MAX_U64);
-    match first {
-        Numeral::Value(m) => match second {
-            Numeral::Value(n) => {
-                let cyclomatic = m as u32;
-                Line::Entry(Listed {
-                    path_end: a,
-                    name_end: b,
-                    cyclomatic,
-                    lines: n,
-                })
-            }
-            Numeral::Bad => Line::Nothing,
-        },
-        Numeral::Bad => Line::Nothing,
+    let cyclomatic = number(&line[b + 1..c], MAX_U32)? as u32;
+    let lines = number(&line[c + 1..d], u64::MAX)?;
+    Some(Listed {
+        path_end: a,
+        name_end: b,
+        cyclomatic,
+        lines,
+    })
+}
+
+// Where the field ends that stands behind the one that ends at a place, if the line goes on there.
+fn next_field(line: &[u8], end: usize) -> Option<usize>
+    requires { end ≤ length line.now }
+    ensures { MatchOption result (end ≡ length line.now) (λ next. (next ≡ end + 1 + bytes_before tab (drop (end + 1) line.now))
+        × (end < next)
+        × (next ≤ length line.now)) }
+{
+    if end == line.len() {
+        return None;
     }
+    Some(field_end(line, end + 1))
 }
 
 // The entry of a line whose first field ends at a place: four fields, of which the last two are numbers. A line that starts with # has none.
-fn entry_with(line: &[u8], a: usize) -> Line
+fn entry_with(line: &[u8], a: usize) -> Option<Listed>
     requires { (a ≡ bytes_before tab line.now) × (a ≤ length line.now) }
     ensures { Inside line.now result × (entry_in line.now result ≡ entry_of line.now) × PathEnds result a }
 {
     if seek::byte(line, 0) == HASH {
-        return Line::Nothing;
+        return None;
     }
-    if a == line.len() {
-        return Line::Nothing;
-    }
-    let b = field_end(line, a + 1);
-    if b == line.len() {
-        return Line::Nothing;
-    }
-    let c = field_end(line, b + 1);
-    if c == line.len() {
-        return Line::Nothing;
-    }
-    let d = field_end(line, c + 1);
+    let b = next_field(line, a)?;
+    let c = next_field(line, b)?;
+    let d = next_field(line, c)?;
     measured(line, a, b, c, d)
 }
 
 // The entry of a line.
-pub fn entry(line: &[u8]) -> Line
+pub fn entry(line: &[u8]) -> Option<Listed>
     ensures { Inside line.now result × (entry_in line.now result ≡ entry_of line.now) }
 {
     let path = field_end(line, 0);
@@ -220,14 +171,7 @@ fn text_end(s: &[u8], from: usize) -> usize
     requires { from ≤ length s.now }
     ensures { (from ≤ result) × (result ≤ length s.now) × Text s.now from result }
 {
-    let mut at = from;
-    while at < s.len() {
-        if s[at] <= LF {
-            return at;
-        }
-        at += 1;
-    }
-    at
+    seek::end_while(s, from, |b| b > LF)
 }
 
 // Where the digits at a place end.
@@ -235,32 +179,25 @@ fn digits_end(s: &[u8], from: usize) -> usize
     requires { from ≤ length s.now }
     ensures { (from ≤ result) × (result ≤ length s.now) × Digits s.now from result }
 {
-    let mut at = from;
-    while at < s.len() {
-        if !is_digit(s[at]) {
-            return at;
-        }
-        at += 1;
-    }
-    at
+    seek::end_while(s, from, |b| b.is_ascii_digit())
 }
 
-// Where one to nine digits end at the byte `x`, or the place itself where they do not stand there. Nine digits fit into 32 bits.
-fn number_end(s: &[u8], from: usize, x: u8) -> usize
+// Where one to nine digits end that the byte `x` follows, if they stand at a place. Nine digits fit into 32 bits.
+fn number_end(s: &[u8], from: usize, x: u8) -> Option<usize>
     requires { from ≤ length s.now }
-    ensures { (from ≤ result) × (from < result → NumberField s.now from result x) }
+    ensures { IfSome result (λ to. NumberField s.now from to x) }
 {
     let end = digits_end(s, from);
+    if end <= from {
+        return None;
+    }
     if 9 < end - from {
-        return from;
+        return None;
     }
-    if end == s.len() {
-        return from;
+    if *s.get(end)? != x {
+        return None;
     }
-    if s[end] != x {
-        return from;
-    }
-    end
+    Some(end)
 }
 
 // A line that is read in one walk: the bytes of its path, where its name ends, and where it ends.
@@ -271,62 +208,43 @@ pub struct Bounds {
     pub end: usize,
 }
 
-// A line of path, name and two numbers of one to nine digits that an LF ends, or any other.
-#[derive(Clone, Copy)]
-pub enum Plain {
-    Line(Bounds),
-    Other,
-}
-
 // The numbers of a line whose path ends at one place and whose name ends at another, where a tab stands.
-fn plain_numbers(s: &[u8], from: usize, a: usize, b: usize) -> Plain
+fn plain_numbers(s: &[u8], from: usize, a: usize, b: usize) -> Option<Bounds>
     requires { Front s.now from a b × (b < length s.now) × (get_or s.now b 0 ≡ tab) }
     ensures { ReadPlain s.now from result }
 {
-    let c = number_end(s, b + 1, TAB);
-    if c <= b + 1 {
-        return Plain::Other;
-    }
-    let d = number_end(s, c + 1, LF);
-    if d <= c + 1 {
-        return Plain::Other;
-    }
-    Plain::Line(Bounds {
+    let c = number_end(s, b + 1, TAB)?;
+    let end = number_end(s, c + 1, LF)?;
+    Some(Bounds {
         path: a - from,
         name: b,
-        end: d,
+        end,
     })
 }
 
 // The rest of a line of which path, tab and text were read up to a place.
-pub fn plain_rest(s: &[u8], from: usize, a: usize, at: usize) -> Plain
+pub fn plain_rest(s: &[u8], from: usize, a: usize, at: usize) -> Option<Bounds>
     requires { Front s.now from a at }
     ensures { ReadPlain s.now from result }
 {
     let b = text_end(s, at);
-    if b == s.len() {
-        return Plain::Other;
-    }
-    if s[b] != TAB {
-        return Plain::Other;
+    if seek::byte(s, b) != TAB {
+        return None;
     }
     plain_numbers(s, from, a, b)
 }
 
 // The line that begins at a place.
-pub fn plain_line(s: &[u8], from: usize) -> Plain
+pub fn plain_line(s: &[u8], from: usize) -> Option<Bounds>
     requires { from < length s.now }
     ensures { ReadPlain s.now from result }
 {
     if s[from] == HASH {
-        return Plain::Other;
+        return None;
     }
     let a = text_end(s, from);
-    if a == s.len() {
-        return Plain::Other;
-    }
-    if s[a] != TAB {
-        return Plain::Other;
+    if seek::byte(s, a) != TAB {
+        return None;
     }
     plain_rest(s, from, a, a + 1)
 }
@@ -348,15 +266,25 @@ pub fn is_key(key: &[u8], path: &[u8], name: &[u8]) -> bool
     order::same_bytes(&key[..n], path)
 }
 
-// The key of an entry, by its bounds in the baseline.
+// A part of a text, by its bounds. The key of an entry is one of the baseline.
 #[derive(Clone, Copy)]
-pub enum Key {
-    Bytes(usize, usize),
-    Nothing,
+pub struct Span {
+    pub from: usize,
+    pub to: usize,
+}
+
+impl Span {
+    // Its bytes.
+    pub fn of(self, s: &[u8]) -> &[u8]
+        requires { (self.from ≤ self.to) × (self.to ≤ length s.now) }
+        ensures { result.now ≡ part self.from self.to s.now }
+    {
+        &s[self.from..self.to]
+    }
 }
 
 // The key of the line that stands from one place up to another and whose first field has `path` bytes. It stands in the line as it is: path, tab and name.
-pub fn key_with(baseline: &[u8], from: usize, to: usize, path: usize) -> Key
+pub fn key_with(baseline: &[u8], from: usize, to: usize, path: usize) -> Option<Span>
     requires { (from ≤ to)
         × (to ≤ length baseline.now)
         × (path ≡ bytes_before tab (part from to baseline.now))
@@ -365,14 +293,15 @@ pub fn key_with(baseline: &[u8], from: usize, to: usize, path: usize) -> Key
         × (key_in baseline.now result ≡ key_of_entry (entry_of (part from to baseline.now)))
         × KeyFrom result from to path }
 {
-    match entry_with(&baseline[from..to], path) {
-        Line::Entry(e) => Key::Bytes(from, from + e.name_end),
-        Line::Nothing => Key::Nothing,
-    }
+    let entry = entry_with(&baseline[from..to], path)?;
+    Some(Span {
+        from,
+        to: from + entry.name_end,
+    })
 }
 
 // The key of the line that stands from one place up to another.
-pub fn key_at(baseline: &[u8], from: usize, to: usize) -> Key
+pub fn key_at(baseline: &[u8], from: usize, to: usize) -> Option<Span>
     requires { (from ≤ to) × (to ≤ length baseline.now) }
     ensures { KeyInside baseline.now result × (key_in baseline.now result ≡ key_of_entry (entry_of (part from to baseline.now))) }
 {
@@ -385,12 +314,6 @@ pub fn key_at(baseline: &[u8], from: usize, to: usize) -> Key
 pub struct Recorded {
     pub cyclomatic: u32,
     pub lines: u64,
-}
-
-#[derive(Clone, Copy)]
-pub enum Accepted {
-    Measures(Recorded),
-    Unlisted,
 }
 
 // A baseline that is not UTF-8 has no entry.

@@ -1,12 +1,12 @@
 -- The stale keys taken batch by batch: the lines of a batch, what was taken, and what is left.
 use Prim.Native.Nat.{ℕ, zero, suc, ◌+◌, ◌-◌, ◌≤◌, ◌<◌, min}
-use mathlib.Core.Path.{◌≡◌, refl, ap, subst, sym, ◌∙◌}
+use mathlib.Core.Path.{◌≡◌, refl, ap, ap₂, subst, sym, ◌∙◌}
 use mathlib.Core.List.{List, [], ◌∷◌, ◌++◌, map}
 use mathlib.Core.Option.{some}
 use native.Mathlib.Numerals.{add-one}
 use native.Mathlib.Omega.{arith}
 use lib.ListN.{length, take, drop, get_or, length-append, length-drop, length-take, take-append-drop}
-use lib.Seq.{take-add, take_all, take-suc, take-take}
+use lib.Seq.{drop-cons, drop-drop, take-add, take_all, take-suc, take-take}
 use Rattle.text_rules.specs.Bytes.{before, kept}
 use Rattle.text_rules.specs.BytesLaws.{map-append}
 use Rattle.text_rules.specs.Selection.{Rising}
@@ -15,14 +15,16 @@ use Rattle.gate_rules.specs.Check.{listed, spaced, stale}
 use Rattle.gate_rules.specs.Functions.{Fun}
 use Rattle.gate_rules.proofs.LoopForms.{listed-append}
 use Rattle.gate_rules.proofs.StaleLaws.{stale-rising}
-use Rattle.baseline.specs.declared.Key.{Key}
-use Rattle.baseline.specs.declared.Key.TheVariants.{Bytes, Nothing}
+use Rattle.baseline.specs.declared.Span.{Span}
+use Rattle.std.specs.Prelude.{Option, Some, None}
+use Rattle.text_rules.specs.Search.{part}
 use Rattle.baseline.specs.Reads.{KeyInside, key_in}
 use Rattle.order.specs.Best.{last_of}
 use Rattle.listed_keys.specs.KeyLines.{key_lines, line-length, lines_more}
 use Rattle.in_order.specs.StaleKeys.{behind}
 use Rattle.batches.specs.Behind.{past}
-use Rattle.sorted_keys.specs.Held.{Held, Holds, held_get, held-length, key_at, keys_at}
+use Rattle.sorted_keys.specs.Held.{Held, Holds, held_get, held-length, keys_of, no_place}
+use Rattle.sorted_keys.specs.declared.Keys.{Keys}
 
 -- the lines of keys, and of more keys behind them
 both-lines : (ks js : List (List ℕ)) → key_lines (ks ++ js) ≡ key_lines ks ++ key_lines js
@@ -33,21 +35,24 @@ lines-some [] h = absurd (omega arith)
 lines-some (k ∷ ks) h = omega (arith, ap length (both-lines (k ∷ []) ks), length-append (key_lines (k ∷ [])) (key_lines ks), line-length k)
 
 -- the lines of the keys that are held, one by one
-module _ (s starts ends : List ℕ) (m : ℕ) (h : Held s starts ends m) where
-  pub all_held : (i : ℕ) → m ≤ i → take i (keys_at s starts ends m) ≡ keys_at s starts ends m
-  all_held i k = take_all i (keys_at s starts ends m) (omega (arith, held-length s starts ends m h))
+module _ (s : List ℕ) (ks : Keys) (h : Held s ks) where
+  pub all_held : (i : ℕ) → ks.count ≤ i → take i (keys_of s ks) ≡ keys_of s ks
+  all_held i k = take_all i (keys_of s ks) (omega (arith, held-length s ks h))
 
-  module _ (i : ℕ) (k : i < m) where
-    pub lines_next : key_lines (take (i + 1) (keys_at s starts ends m)) ≡ key_lines (take i (keys_at s starts ends m)) ++ listed (spaced (key_at s starts ends i) ∷ [])
-    lines_next =
-        let ks = keys_at s starts ends m in
-        ap (λ n. key_lines (take n ks)) (add-one i)
-        ∙ ap key_lines (take-suc ks i [] (omega (arith, k, held-length s starts ends m h)) ∙ ap (λ j. take i ks ++ j ∷ []) (held_get s starts ends m h i k))
-        ∙ lines_more (take i ks) (key_at s starts ends i)
+  module _ (i : ℕ) (k : i < ks.count) where
+    pub bytes_next : length (key_lines (take (i + 1) (keys_of s ks))) ≡ length (key_lines (take i (keys_of s ks))) + (3 + length (get_or (keys_of s ks) i []))
+    bytes_next =
+        let keys = keys_of s ks in
+        let one = get_or keys i [] in
+        let next : key_lines (take (i + 1) keys) ≡ key_lines (take i keys) ++ listed (spaced one ∷ []) =
+        ap (λ n. key_lines (take n keys)) (add-one i) ∙ ap key_lines (take-suc keys i [] (omega (arith, k, held-length s ks h))) ∙ lines_more (take i keys) one in
+        ap length next ∙ length-append (key_lines (take i keys)) (listed (spaced one ∷ [])) ∙ ap (λ n. length (key_lines (take i keys)) + n) (line-length one)
 
-    pub bytes_next : length (key_lines (take (i + 1) (keys_at s starts ends m)))
-        ≡ length (key_lines (take i (keys_at s starts ends m))) + length (listed (spaced (key_at s starts ends i) ∷ []))
-    bytes_next = ap length lines_next ∙ length-append (key_lines (take i (keys_at s starts ends m))) (listed (spaced (key_at s starts ends i) ∷ []))
+    pub rest_next : key_lines (drop i (keys_of s ks)) ≡ key_lines (get_or (keys_of s ks) i [] ∷ []) ++ key_lines (drop (i + 1) (keys_of s ks))
+    rest_next =
+        let keys = keys_of s ks in
+        ap key_lines (drop-cons keys i [] (omega (arith, k, held-length s ks h)) ∙ ap (λ j. get_or keys i [] ∷ drop j keys) (sym (add-one i)))
+        ∙ both-lines (get_or keys i [] ∷ []) (drop (i + 1) keys)
 
 -- the last element of a list
 module _ {A : Type 0} where
@@ -66,16 +71,16 @@ module _ {A : Type 0} where
 
 module _ (es : List Entry) (fs : List Fun) (s : List ℕ) where
   -- the first keys were taken, so many, and this is the last of them
-  pub record Reached (last : Key) (count : ℕ) : Type 0 where
+  pub record Reached (last : Option Span) (count : ℕ) : Type 0 where
     pub last_taken : key_in s last ≡ last_of (take count (stale es fs))
     pub inside : KeyInside s last
     pub few : count ≤ length (stale es fs)
 
-  pub reached-none : Reached Nothing 0
+  pub reached-none : Reached None 0
   reached-none = record { last_taken = refl; inside = tt; few = omega arith }
 
-  module _ (last : Key) (count : ℕ) (r : Reached last count) (starts ends : List ℕ) (m : ℕ)
-      (p : Holds s starts ends m (take 8192 (kept (behind (key_in s last)) (stale es fs)))) where
+  module _ (last : Option Span) (count : ℕ) (r : Reached last count) (ks : Keys)
+      (p : Holds s ks (take 8192 (kept (behind (key_in s last)) (stale es fs)))) where
     left : kept (behind (key_in s last)) (stale es fs) ≡ drop count (stale es fs)
     left =
         let keys = stale es fs in
@@ -84,53 +89,63 @@ module _ (es : List Entry) (fs : List Fun) (s : List ℕ) where
         ∙ ap (kept (behind (last_of (take count keys)))) (sym cut)
         ∙ past (take count keys) (drop count keys) (subst (Rising before) (sym cut) (stale-rising es fs))
 
-    batch : keys_at s starts ends m ≡ take 8192 (drop count (stale es fs))
+    batch : keys_of s ks ≡ take 8192 (drop count (stale es fs))
     batch = p.keys ∙ ap (take 8192) left
 
-    size : m ≡ min 8192 (length (stale es fs) - count)
+    size : ks.count ≡ min 8192 (length (stale es fs) - count)
     size =
-        sym (held-length s starts ends m p.held) ∙ ap length batch ∙ length-take 8192 (drop count (stale es fs)) ∙ ap (min 8192) (length-drop count (stale es fs))
+        sym (held-length s ks p.held) ∙ ap length batch ∙ length-take 8192 (drop count (stale es fs)) ∙ ap (min 8192) (length-drop count (stale es fs))
 
     -- with a batch more
-    pub more : count + m ≤ length (stale es fs)
+    pub more : count + ks.count ≤ length (stale es fs)
     more = omega (arith, size, r.few)
 
-    together : take (count + m) (stale es fs) ≡ take count (stale es fs) ++ keys_at s starts ends m
+    together : take (count + ks.count) (stale es fs) ≡ take count (stale es fs) ++ keys_of s ks
     together =
         let rest = drop count (stale es fs) in
-        let same : take m rest ≡ keys_at s starts ends m =
-        sym (take-take m 8192 rest p.held.few) ∙ ap (take m) (sym batch) ∙ all_held s starts ends m p.held m (omega arith) in
-        take-add count m (stale es fs) ∙ ap (λ ks. take count (stale es fs) ++ ks) same
+        let same : take ks.count rest ≡ keys_of s ks =
+        sym (take-take ks.count 8192 rest p.held.few) ∙ ap (take ks.count) (sym batch) ∙ all_held s ks p.held ks.count (omega arith) in
+        take-add count ks.count (stale es fs) ∙ ap (λ ks. take count (stale es fs) ++ ks) same
 
-    pub lines-together : key_lines (take (count + m) (stale es fs)) ≡ key_lines (take count (stale es fs)) ++ key_lines (keys_at s starts ends m)
-    lines-together = ap key_lines together ∙ both-lines (take count (stale es fs)) (keys_at s starts ends m)
+    pub lines-together : key_lines (take (count + ks.count) (stale es fs)) ≡ key_lines (take count (stale es fs)) ++ key_lines (keys_of s ks)
+    lines-together = ap key_lines together ∙ both-lines (take count (stale es fs)) (keys_of s ks)
 
-    pub bytes_together : length (key_lines (take (count + m) (stale es fs))) ≡ length (key_lines (take count (stale es fs))) + length (key_lines (keys_at s starts ends m))
-    bytes_together = ap length lines-together ∙ length-append (key_lines (take count (stale es fs))) (key_lines (keys_at s starts ends m))
+    pub bytes_together : length (key_lines (take (count + ks.count) (stale es fs))) ≡ length (key_lines (take count (stale es fs))) + length (key_lines (keys_of s ks))
+    bytes_together = ap length lines-together ∙ length-append (key_lines (take count (stale es fs))) (key_lines (keys_of s ks))
+
+    -- the lines that are left, after the batch
+    pub rest-together : key_lines (drop count (stale es fs)) ≡ key_lines (keys_of s ks) ++ key_lines (drop (count + ks.count) (stale es fs))
+    rest-together =
+        let rest = drop count (stale es fs) in
+        let same : take ks.count rest ≡ keys_of s ks =
+        sym (take-take ks.count 8192 rest p.held.few) ∙ ap (take ks.count) (sym batch) ∙ all_held s ks p.held ks.count (omega arith) in
+        let cut : take ks.count rest ++ drop ks.count rest ≡ rest = take-append-drop ks.count rest in
+        ap key_lines (sym cut ∙ ap₂ (λ x y. x ++ y) same (drop-drop ks.count count (stale es fs))) ∙ both-lines (keys_of s ks) (drop (count + ks.count) (stale es fs))
 
     -- a batch that leaves a place free is the last one
-    pub all-taken : m < 8192 → (take (count + m) (stale es fs) ≡ stale es fs) × (count + m ≡ length (stale es fs))
+    pub all-taken : ks.count < 8192 → (take (count + ks.count) (stale es fs) ≡ stale es fs) × (count + ks.count ≡ length (stale es fs))
     all-taken h =
-        let n : count + m ≡ length (stale es fs) = omega (arith, size, r.few) in
-        (take_all (count + m) (stale es fs) (omega (arith, n)), n)
+        let n : count + ks.count ≡ length (stale es fs) = omega (arith, size, r.few) in
+        (take_all (count + ks.count) (stale es fs) (omega (arith, n)), n)
 
     -- and one that does not has a last key, and lines
-    module _ (h : 8192 ≤ m) where
-      full : length (keys_at s starts ends m) ≡ suc 8191
-      full = held-length s starts ends m p.held ∙ (omega (arith, h, p.held.few))
+    module _ (h : 8192 ≤ ks.count) where
+      full : length (keys_of s ks) ≡ suc 8191
+      full = held-length s ks p.held ∙ (omega (arith, h, p.held.few))
 
-      pub reached-more : Reached (Bytes (get_or starts 8191 0) (get_or ends 8191 0)) (count + m)
-      reached-more =
+      pub reached-more : (last' : Span) → last'.from ≡ (get_or ks.places 8191 no_place).from → last'.to ≡ (get_or ks.places 8191 no_place).to → Reached (Some last') (count + ks.count)
+      reached-more last' e f =
+          let room = p.held.inside 8191 (omega (arith, h)) in
           record {
-            last_taken = sym (
+            last_taken = ap₂ (λ x y. some (part x y s)) e f ∙ sym (
                 ap last_of together
-                ∙ last-behind (take count (stale es fs)) (keys_at s starts ends m) (omega (arith, full))
-                ∙ last_get (keys_at s starts ends m) 8191 [] full
-                ∙ ap some (held_get s starts ends m p.held 8191 (omega (arith, h)))
+                ∙ last-behind (take count (stale es fs)) (keys_of s ks) (omega (arith, full))
+                ∙ last_get (keys_of s ks) 8191 [] full
+                ∙ ap some (held_get s ks p.held 8191 (omega (arith, h)))
                 );
-            inside = p.held.inside 8191 (omega (arith, h));
+            inside = (omega (arith, e, f, room.0), omega (arith, f, room.1));
             few = more;
           }
 
-      pub bytes_more : 0 < length (key_lines (keys_at s starts ends m))
-      bytes_more = lines-some (keys_at s starts ends m) (omega (arith, full))
+      pub bytes_more : 0 < length (key_lines (keys_of s ks))
+      bytes_more = lines-some (keys_of s ks) (omega (arith, full))

@@ -1,76 +1,55 @@
 -- The lines of the stale keys written batch by batch, one batch behind the other.
-use Prim.Native.Nat.{ℕ, ◌+◌, ◌≤◌, ◌<◌}
-use mathlib.Core.Path.{◌≡◌, refl, ap, subst, sym, ◌∙◌}
-use mathlib.Core.List.{List}
-use native.Mathlib.Omega.{arith}
-use lib.ListN.{length, take, get_or}
-use Rattle.text_rules.specs.Bytes.{kept, put_at}
-use Rattle.text_rules.proofs.PutLaws.{put-length}
-use Rattle.text_rules.proofs.WriterLaws.{put-none, put_then}
+use Rattle.std.proofs.Common.{ℕ, ◌+◌, ◌≤◌, ◌<◌, ◌≡◌, List, ap, length, take, drop, get_or, arith, length-append, drop_of_length-le}
+use Rattle.std.specs.Prelude.{Option, Some, None}
+use Rattle.text_rules.specs.Bytes.{kept}
 use Rattle.gate_rules.specs.Baseline.{Entry}
-use Rattle.gate_rules.specs.Check.{listed, stale}
+use Rattle.gate_rules.specs.Check.{stale}
 use Rattle.gate_rules.specs.Functions.{Fun}
-use Rattle.baseline.specs.declared.Key.{Key}
-use Rattle.baseline.specs.declared.Key.TheVariants.{Bytes, Nothing}
+use Rattle.baseline.specs.declared.Span.{Span}
 use Rattle.baseline.specs.Reads.{key_in}
-use Rattle.listed_keys.specs.KeyLines.{key_lines, lines-most}
+use Rattle.listing.specs.Writes.{Remains, Room, Writes, remains_all, remains_next, remains_none, remains_room}
+use Rattle.listing.specs.declared.Writer.{Writer}
+use Rattle.listed_keys.specs.KeyLines.{key_lines, none_lines}
 use Rattle.in_order.specs.StaleKeys.{behind}
-use Rattle.sorted_keys.specs.Held.{Holds, keys_at}
-use Rattle.batches.proofs.Taking.{Reached, all-taken, bytes_more, bytes_together, lines-together, reached-more, reached-none}
+use Rattle.sorted_keys.specs.Held.{Holds, keys_of, no_place}
+use Rattle.sorted_keys.specs.declared.Keys.{Keys}
+use Rattle.batches.proofs.Taking.{Reached, all-taken, bytes_more, reached-more, reached-none, rest-together}
 
-module _ (es : List Entry) (fs : List Fun) (s : List ℕ) (at : ℕ) (out₀ : List ℕ) where
-  -- the lines of the keys that were taken stand from `at` up to `done`
-  pub record Written (out : List ℕ) (last : Key) (done : ℕ) : Type 0 where
+module _ (es : List Entry) (fs : List Fun) (s : List ℕ) (old : Writer) where
+  -- the first keys were taken and written, and the others remain
+  pub record Batches (w : Writer) (last : Option Span) : Type 0 where
     pub count : ℕ
     pub reached : Reached es fs s last count
-    pub place : done ≡ at + length (key_lines (take count (stale es fs)))
-    pub lines : out ≡ put_at at (key_lines (take count (stale es fs))) out₀
-    pub size : length out ≡ length out₀
+    pub rest : Remains (key_lines (drop count (stale es fs))) (key_lines (stale es fs)) old w
 
-  pub written_none : Written out₀ Nothing at
-  unfolding listed
-  written_none = record { count = 0; reached = reached-none es fs s; place = omega arith; lines = sym (put-none at out₀); size = refl }
+  pub batches_none : Room (key_lines (stale es fs)) old → Batches old None
+  batches_none h = record { count = 0; reached = reached-none es fs s; rest = remains_all h }
 
-  module _ (room : at + length (key_lines (stale es fs)) ≤ length out₀) (out : List ℕ) (last : Key) (done : ℕ) (w : Written out last done) (starts ends : List ℕ) (m : ℕ)
-      (p : Holds s starts ends m (take 8192 (kept (behind (key_in s last)) (stale es fs)))) where
-    together : length (key_lines (take (w.count + m) (stale es fs))) ≡ length (key_lines (take w.count (stale es fs))) + length (key_lines (keys_at s starts ends m))
-    together = bytes_together es fs s last w.count w.reached starts ends m p
-
-    fits : at + length (key_lines (take (w.count + m) (stale es fs))) ≤ length out₀
-    fits = omega (arith, room, lines-most (stale es fs) (w.count + m))
-
+  module _ (w : Writer) (last : Option Span) (b : Batches w last) (ks : Keys) (p : Holds s ks (take 8192 (kept (behind (key_in s last)) (stale es fs)))) where
     -- there is room for the batch
-    pub room-left : done + length (key_lines (keys_at s starts ends m)) ≤ length out
-    room-left = omega (arith, fits, together, w.place, w.size)
+    pub batch_room : Room (key_lines (keys_of s ks)) w
+    batch_room = remains_room (key_lines (keys_of s ks)) (key_lines (drop (b.count + ks.count) (stale es fs))) b.rest (rest-together es fs s last b.count b.reached ks p)
 
-    module _ (out' : List ℕ) (done' : ℕ) (e : done' ≡ done + length (key_lines (keys_at s starts ends m))) (d : out' ≡ put_at done (key_lines (keys_at s starts ends m)) out) where
-      place_now : done' ≡ at + length (key_lines (take (w.count + m) (stale es fs)))
-      place_now = omega (arith, e, w.place, together)
-
-      lines_now : out' ≡ put_at at (key_lines (take (w.count + m) (stale es fs))) out₀
-      lines_now =
-          let next = lines-together es fs s last w.count w.reached starts ends m p in
-          put_then at done (key_lines (take w.count (stale es fs))) (key_lines (keys_at s starts ends m)) out₀ out out' (omega (arith, ap length next, fits)) w.place w.lines d
-          ∙ ap (λ t. put_at at t out₀) (sym next)
+    module _ (new : Writer) (f : Writes (key_lines (keys_of s ks)) w new) where
+      left : Remains (key_lines (drop (b.count + ks.count) (stale es fs))) (key_lines (stale es fs)) old new
+      left = remains_next (key_lines (drop (b.count + ks.count) (stale es fs))) b.rest (rest-together es fs s last b.count b.reached ks p) f
 
       -- it was the last one
-      pub written_all : m < 8192 → (done' ≡ at + length (key_lines (stale es fs))) × (out' ≡ put_at at (key_lines (stale es fs)) out₀)
-      written_all h =
-          let all = (all-taken es fs s last w.count w.reached starts ends m p h).0 in
-          (place_now ∙ ap (λ ks. at + length (key_lines ks)) all, lines_now ∙ ap (λ ks. put_at at (key_lines ks) out₀) all)
+      pub batches_all : ks.count < 8192 → Writes (key_lines (stale es fs)) old new
+      batches_all h =
+          let n = (all-taken es fs s last b.count b.reached ks p h).1 in
+          let none : length (stale es fs) ≤ b.count + ks.count = omega (arith, n) in
+          remains_none left (none_lines (drop (b.count + ks.count) (stale es fs)) (drop_of_length-le (stale es fs) none))
 
       -- or others follow, and fewer bytes are left
-      pub written-more : 8192 ≤ m → (next : Key) → next ≡ Bytes (get_or starts 8191 0) (get_or ends 8191 0) → Written out' next done'
-      written-more h next q =
-          record {
-            count = w.count + m;
-            reached = subst (λ k. Reached es fs s k (w.count + m)) (sym q) (reached-more es fs s last w.count w.reached starts ends m p h);
-            place = place_now;
-            lines = lines_now;
-            size = ap length lines_now ∙ put-length at (key_lines (take (w.count + m) (stale es fs))) out₀ fits;
-          }
+      pub batches_more : 8192 ≤ ks.count → (next : Span) → next.from ≡ (get_or ks.places 8191 no_place).from → next.to ≡ (get_or ks.places 8191 no_place).to → Batches new (Some next)
+      batches_more h next e d = record { count = b.count + ks.count; reached = reached-more es fs s last b.count b.reached ks p h next e d; rest = left }
 
-      pub written-further : 8192 ≤ m → (done < done') × (done' ≤ at + length (key_lines (stale es fs)))
-      written-further h =
-          let some = bytes_more es fs s last w.count w.reached starts ends m p h in
-          (omega (arith, e, some), omega (arith, place_now, lines-most (stale es fs) (w.count + m)))
+      pub batches_further : 8192 ≤ ks.count → (w.at < new.at) × (new.at ≤ old.at + length (key_lines (stale es fs)))
+      batches_further h =
+          let some = bytes_more es fs s last b.count b.reached ks p h in
+          let r = left in
+          (omega (arith, f.place, some), omega (arith, r.written.place, ap_length r))
+        where
+          ap_length : (r : Remains (key_lines (drop (b.count + ks.count) (stale es fs))) (key_lines (stale es fs)) old new) → length r.done ≤ length (key_lines (stale es fs))
+          ap_length r = omega (arith, ap length r.all, length-append r.done (key_lines (drop (b.count + ks.count) (stale es fs))))

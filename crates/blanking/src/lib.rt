@@ -27,6 +27,7 @@ fn blank_byte(b: u8) -> u8
 }
 
 // A place in a text up to which the output is written.
+// Kept: a step takes the cursor and hands back the next one, which a cursor that holds the output could not, so text and output stand beside it.
 #[derive(Clone, Copy)]
 struct Cursor {
     at: usize,
@@ -47,7 +48,9 @@ impl Cursor {
     // Writes the token that opens here, or else the byte here, and goes past it.
     fn step(self, text: &[u8], output: &mut [u8]) -> Cursor
         requires { (self.at < length text.now) × (length text.now ≤ length output.old) }
-        ensures { (self.at < result.at) × (result.at ≤ length text.now) × (finished text.now output.new result.at result.at ≡ finished text.now output.old self.at self.at) }
+        ensures { (self.at < result.at)
+            × (result.at ≤ length text.now)
+            × (finished text.now output.new result.at result.at ≡ finished text.now output.old self.at self.at) }
     {
         let at = self.at;
         match (tokens::Cursor { at }).token(text) {
@@ -60,7 +63,8 @@ impl Cursor {
     }
 }
 
-// Past the blocks from a place on that have none of the bytes by which a token is told. All four are asked, so that the compiler asks a block at once.
+// Past the blocks from a place on that have none of the bytes by which a token is told. All four are asked, so that the compiler asks a block at
+// once.
 fn bare_end(s: &[u8], from: usize) -> usize
     requires { from ≤ length s.now }
     ensures { (from ≤ result) × (result ≤ length s.now) × AllBare s.now from result }
@@ -87,16 +91,16 @@ fn copy(text: &[u8], output: &mut [u8], from: usize, to: usize)
     requires { (from ≤ to) × (to ≤ length text.now) × (length text.now ≤ length output.old) × NoToken text.now from to }
     ensures { finished text.now output.new to to ≡ finished text.now output.old from from }
 {
-    for at in from..to {
-        output[at] = text[at];
-    }
+    output[from..to].copy_from_slice(&text[from..to]);
 }
 
 impl Cursor {
     // Writes token by token and byte by byte from here to `end`, or past it.
     fn steps(self, text: &[u8], output: &mut [u8], end: usize) -> Cursor
         requires { (self.at ≤ end) × (end ≤ length text.now) × (length text.now ≤ length output.old) }
-        ensures { (end ≤ result.at) × (result.at ≤ length text.now) × (finished text.now output.new result.at result.at ≡ finished text.now output.old self.at self.at) }
+        ensures { (end ≤ result.at)
+            × (result.at ≤ length text.now)
+            × (finished text.now output.new result.at result.at ≡ finished text.now output.old self.at self.at) }
     {
         let mut here = self;
         // Kept: a token may be of any length, so no `for` counts the steps.
@@ -109,7 +113,9 @@ impl Cursor {
     // Writes the plain bytes here, and then some bytes by steps.
     fn pass(self, text: &[u8], output: &mut [u8]) -> Cursor
         requires { (self.at < length text.now) × (length text.now ≤ length output.old) }
-        ensures { (self.at < result.at) × (result.at ≤ length text.now) × (finished text.now output.new result.at result.at ≡ finished text.now output.old self.at self.at) }
+        ensures { (self.at < result.at)
+            × (result.at ≤ length text.now)
+            × (finished text.now output.new result.at result.at ≡ finished text.now output.old self.at self.at) }
     {
         let at = self.at;
         let to = plain_end(text, at);

@@ -4,7 +4,7 @@
 
 ghost use Rattle.std.specs.Prelude.{◌≡◌, ℕ, true, ◌+◌, ◌≤◌, ◌<◌, length, get_or, drop};
 ghost use Rattle.text_rules.specs.Search.{bytes_before};
-ghost use Rattle.blocks.specs.Blocks.{Lacks, count_from};
+ghost use Rattle.blocks.specs.Blocks.{Every, Lacks, count_from};
 
 // The bytes of a block.
 pub const WIDTH: usize = 16;
@@ -21,12 +21,21 @@ fn every<F: Fn(u8) -> bool>(block: &[u8], test: F) -> bool
     all
 }
 
+// Whether each byte of the block at a place passes a test.
+pub fn passes<F: Fn(u8) -> bool>(s: &[u8], at: usize, test: F) -> bool
+    requires inside { at + 16 ≤ length s.now }
+    requires callable { F.IsAlwaysCallable test }
+    ensures { result ≡ true → Every (λ b. F.post test b true) s.now at 16 }
+{
+    every(&s[at..at + WIDTH], test)
+}
+
 // Whether no byte of the block at a place is `x`.
 pub fn lacks(s: &[u8], at: usize, x: u8) -> bool
     requires { at + 16 ≤ length s.now }
     ensures { result ≡ true → Lacks x s.now at 16 }
 {
-    every(&s[at..at + WIDTH], |b| b != x)
+    passes(s, at, |b| b != x)
 }
 
 // How many bytes of the block at a place are `x`.

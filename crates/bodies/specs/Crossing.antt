@@ -71,7 +71,6 @@ module _ (s starts : List ℕ) (w : Walk) (k : Kept s starts w) where
     pub kept_narrowed : Kept s starts (with_searches w y)
     kept_narrowed =
         record {
-          most = k.most;
           behind = k.behind;
           inside = k.inside;
           small = k.small;
@@ -118,7 +117,6 @@ module _ (s starts : List ℕ) (w : Walk) (k : Kept s starts w) where
       pub kept-crossed : Kept s starts (crossed c w g)
       kept-crossed =
           record {
-            most = k.most;
             behind = (let b = k.behind in omega (arith, b));
             inside = y.inside;
             small = k.small;

@@ -22,29 +22,44 @@ all_equal n k x =
 pub zeros : (n k : ℕ) → ◌≡◌ {A = ℕ} (get_or (replicate n 0) k 0) 0
 zeros n k = all_equal n k 0
 
--- where nothing is told
-pub fresh : Fresh (record { told = replicate 2048 Unknown; links = replicate 2048 0; heads = replicate 4097 0; pending = 0; low = 4096; high = 0 })
-fresh =
-    record {
-      fits =
-          record {
-            room = length-replicate 2048 Unknown;
-            links_room = length-replicate {A = ℕ} 2048 0;
-            heads_room = length-replicate {A = ℕ} 4097 0;
-            heads_most = λ k. omega (arith, zeros 4097 k);
-            links_fall = λ j. omega (arith, zeros 2048 j);
-          };
-      nothing-told = λ i. all_equal 2048 i Unknown;
-      no-head = zeros 4097;
-      none-pending = refl;
-      low-most = omega arith;
-      high-most = omega arith;
-    }
+-- where nothing is told of any search that there is
+module _ (m : List Sought) (room : length m ≡ 2048) (z : (k : ℕ) → k < 2048 → get_or m k Unknown ≡ Unknown) where
+  pub no-numbers : (k : ℕ) → get_or m k Unknown ≡ Unknown
+  no-numbers k =
+      elim (whether (ltb k 2048)) [
+        | inl t ↦ z k (ltb-true k 2048 t)
+        | inr t ↦ (let l = ltb-false k 2048 t in get_or-eq_default m Unknown (omega (arith, room, l)))
+      ]
 
-pub finds-nothing : (s starts : List ℕ) (many : ℕ) → Finds s starts many (replicate 2048 Unknown)
-finds-nothing s starts many =
-    let t : (k : ℕ) → Tells (get_or (replicate 2048 Unknown) k Unknown) (sought s starts k) = λ k. tells-unknown _ _ (all_equal 2048 k Unknown) in
-    record { none-there = λ k l. (t k).none_found; brace-there = λ k p l. (t k).brace-found p }
+  pub finds-nothing : (s starts : List ℕ) (many : ℕ) → Finds s starts many m
+  finds-nothing s starts many =
+      let t : (k : ℕ) → Tells (get_or m k Unknown) (sought s starts k) = λ k. tells-unknown _ _ (no-numbers k) in
+      record { none-there = λ k l. (t k).none_found; brace-there = λ k p l. (t k).brace-found p }
+
+  pub fresh : Fresh (record { told = m; links = replicate 2048 0; heads = replicate 4097 0; pending = 0; low = 4096; high = 0 })
+  fresh =
+      record {
+        fits =
+            record {
+              room = room;
+              links_room = length-replicate {A = ℕ} 2048 0;
+              heads_room = length-replicate {A = ℕ} 4097 0;
+              heads_most = λ k. omega (arith, zeros 4097 k);
+              links_fall = λ j. omega (arith, zeros 2048 j);
+            };
+        nothing-told = no-numbers;
+        no-head = zeros 4097;
+        none-pending = refl;
+        low-most = omega arith;
+        high-most = omega arith;
+      }
+
+-- the searches of a call before the walk
+pub unknown_room : length (replicate 2048 Unknown) ≡ 2048
+unknown_room = length-replicate 2048 Unknown
+
+pub unknown-each : (k : ℕ) → k < 2048 → get_or (replicate 2048 Unknown) k Unknown ≡ Unknown
+unknown-each k l = all_equal 2048 k Unknown
 
 -- what is told at the end
 pub told-finds : (s starts : List ℕ) (at : ℕ) (m : List Sought) → Told s starts at m → (many : ℕ) → Finds s starts many m

@@ -89,7 +89,7 @@ Adds w v = (v ≡ begun w w.searches) ⊎ ((k : ℕ) × AtLevel w k × (v ≡ be
 
 -- the next search begins where the walk is, or nothing changes
 abbrev pub Begins : List ℕ → (w v : Walk) → Type 0
-Begins starts w v = (v ≡ w) ⊎ ((w.next < length starts) × (get_or starts w.next 0 ≡ w.at) × Adds w v)
+Begins starts w v = (v ≡ w) ⊎ ((w.next < 2048) × (get_or starts w.next 0 ≡ w.at) × Adds w v)
 
 -- the search that begins at the place of an index
 abbrev pub sought : (s starts : List ℕ) → ℕ → Option ℕ
@@ -108,7 +108,6 @@ pub record Tells (n : Sought) (found : Option ℕ) : Type 0 where
 
 -- the walk has come to a place, with searches pending
 pub record Kept (s starts : List ℕ) (w : Walk) : Type 0 where
-  pub most : length starts ≤ 2048
   pub behind : get_or starts 0 0 ≤ w.at
   pub inside : w.at ≤ length s
   pub small : length s ≤ 4294967292
@@ -137,6 +136,7 @@ pub record Fresh (x : Searches) : Type 0 where
 
 -- what is told of the searches once the walk has come to a place: at the end of the text those that are pending find none either
 pub record Told (s starts : List ℕ) (at : ℕ) (m : List Sought) : Type 0 where
+  pub room : length m ≡ 2048
   pub tells : (i : ℕ) → Tells (get_or m i Unknown) (sought s starts i)
   pub rest : length s ≤ at → (i : ℕ) → Pending m i → sought s starts i ≡ none
 
@@ -179,13 +179,12 @@ pub ended-other : (level : ℕ → ℕ) (E : ℕ → Type 0) (b at : ℕ) (m : L
 ended-other level E b at m links heads o c h = record { chain = h; told = λ i. inl refl; stays = λ i p. (p, inr (o, c)) }
 
 -- at the beginning
-pub kept-first : (s starts : List ℕ) (g : Groups) (x : Searches) → length starts ≤ 2048 → get_or starts 0 0 ≤ length s → length s ≤ 4294967292 → Stands g 0 (get_or starts 0 0) → Fresh x
+pub kept-first : (s starts : List ℕ) (g : Groups) (x : Searches) → get_or starts 0 0 ≤ length s → length s ≤ 4294967292 → Stands g 0 (get_or starts 0 0) → Fresh x
     → Kept s starts (record { at = get_or starts 0 0; next = 0; opened = 0; closed = 0; groups = g; searches = x })
 unfolding count_from
-kept-first s starts g x most h l stands f =
+kept-first s starts g x h l stands f =
     let z : get_or starts 0 0 - get_or starts 0 0 ≡ 0 = omega arith in
     record {
-      most = most;
       behind = omega arith;
       inside = h;
       small = l;
@@ -233,7 +232,6 @@ module _ (s starts : List ℕ) (w : Walk) (k : Kept s starts w) where
     kept_same : Kept s starts (begun w w.searches)
     kept_same =
         record {
-          most = k.most;
           behind = k.behind;
           inside = k.inside;
           small = k.small;
@@ -278,7 +276,6 @@ module _ (s starts : List ℕ) (w : Walk) (k : Kept s starts w) where
       kept-added : Kept s starts (begun w (noted w.searches w.next level))
       kept-added =
           record {
-            most = k.most;
             behind = k.behind;
             inside = k.inside;
             small = k.small;
@@ -312,7 +309,7 @@ module _ (s starts : List ℕ) (w : Walk) (k : Kept s starts w) where
 
   pub kept-begun : (v : Walk) → Begins starts w v → Kept s starts v
   kept-begun v (inl e) = rw e k
-  kept-begun v (inr e) = kept-noted (omega (arith, e.0, k.most)) e.1 v e.2
+  kept-begun v (inr e) = kept-noted e.0 e.1 v e.2
 
 -- a search at depth 0 ends at a { or ;
 module _ (angle opened closed : ℕ) where
@@ -379,7 +376,6 @@ module _ (s starts : List ℕ) (w : Walk) (k : Kept s starts w) (h : w.at < leng
     pub kept-further : Kept s starts (record { at = w.at + 1; next = w.next; opened = opened; closed = closed; groups = g; searches = x })
     kept-further =
         record {
-          most = k.most;
           behind = (let b = k.behind in omega (arith, b));
           inside = omega (arith, h);
           small = k.small;
@@ -419,4 +415,4 @@ module _ (s starts : List ℕ) (w : Walk) (k : Kept s starts w) where
 -- what is told of the searches then
 pub kept-told : (s starts : List ℕ) (w : Walk) → Kept s starts w → Told s starts w.at w.searches.told
 kept-told s starts w k =
-    record { tells = k.tells; rest = λ l i p. k.tracked i p ∙ body_end s w.at l _ _ _ }
+    record { room = k.fits.room; tells = k.tells; rest = λ l i p. k.tracked i p ∙ body_end s w.at l _ _ _ }

@@ -1,5 +1,5 @@
-// What some searches for a body find. Searches for the brace that opens a body, behind a list of parameters, may each read far. So those that begin at
-// some places are made together, in one walk over the text. It passes a chunk in which no search begins or ends without reading it.
+// What some searches for a body find. Searches for the brace that opens a body, behind a list of parameters, may each read far. So those that begin
+// at some places are made together, in one walk over the text. It passes a chunk in which no search begins or ends without reading it.
 #![tactic(auto)]
 
 ghost use Rattle.std.specs.Prelude.{◌≡◌, ◌≢◌, ℕ, ◌+◌, ◌≤◌, ◌<◌, length, get_or, IsFalse, IsTrue, MatchOption};
@@ -31,9 +31,11 @@ pub enum Sought {
     Brace(u32),
 }
 
-// The searches, those that go on in chains, one for each level. A chain has its latest search first. An index in a chain is told by one more than itself:
-// 0 is the end of the chain, and a number above i tells that the chain holds a search and that it is not before the one of index i. An option of an
-// index would leave the second to a test of its own. Kept as arrays: a search takes no memory from the heap.
+// The searches. Those that go on stand in chains, one for each level, the latest first: `heads` has the first of each level, and `links` what
+// follows.
+// Kept: numbers, not options. An index stands as one more than itself and 0 ends a chain, so one comparison tells that a chain goes on and that its
+// first search is not before a boundary.
+// Kept: arrays of fixed length, since a call takes no memory from the heap.
 #[derive(Drop)]
 struct Searches {
     told: [Sought; 2048],
@@ -125,6 +127,7 @@ impl Searches {
 }
 
 // The first chain that holds a search, and the last one.
+// Kept: the library goes through a list from its two ends by two methods, so these are two functions.
 fn first_some(heads: &[u16]) -> Option<usize>
     ensures { MatchOption result ((k : ℕ) → get_or heads.now k 0 ≡ 0) (λ first. (first < length heads.now) × ((k : ℕ) → k < first → get_or heads.now k 0 ≡ 0)) }
 {
@@ -143,11 +146,12 @@ struct Places<'a> {
     text: &'a [u8],
     sums: &'a [u16; 36865],
     starts: &'a [u32],
+    ghost few: { length starts.now ≤ 2048 },
     ghost summed: { Summed text.now sums.now },
 }
 
-// How far the walk over a text has come: how many searches have begun, the square brackets that were opened and closed since the walk began, and the groups
-// of angle brackets that are open.
+// How far the walk over a text has come: how many searches have begun, the square brackets that were opened and closed since the walk began, and the
+// groups of angle brackets that are open.
 #[derive(Drop)]
 struct Walk {
     at: usize,
@@ -268,8 +272,8 @@ impl Walk {
             .is_none_or(|start| to <= *start as usize)
     }
 
-    // Whether no pending search ends in a chunk: each has more angle brackets open than the chunk closes before its last `{` or `;`, or all of these stand
-    // above the levels of the searches, or all below.
+    // Whether no pending search ends in a chunk: each has more angle brackets open than the chunk closes before its last `{` or `;`, or all of these
+    // stand above the levels of the searches, or all below.
     fn is_missed(&self, c: Chunk) -> bool
         requires chunk { (c.low ≤ 65535) × (c.high ≤ 65535) }
         requires levels { (self.now.searches.low ≤ 4096) × (self.now.searches.high ≤ 4096) }
@@ -375,8 +379,8 @@ fn quiet_end(s: &[u8], from: usize, to: usize) -> usize
     }
 }
 
-// For each of some places in rising order what a search for a body that begins there finds, where it is known. Not a list on the heap: a search takes no
-// memory from there.
+// For each of some places in rising order what a search for a body that begins there finds, where it is known. Not a list on the heap: a search
+// takes no memory from there.
 pub fn note_bodies(s: &[u8], t: &[u16; 36865], starts: &[u32]) -> [Sought; 2048]
     requires most { length starts.now ≤ 2048 }
     requires rising { Rising s.now starts.now (length starts.now) }

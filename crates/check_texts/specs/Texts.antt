@@ -2,19 +2,15 @@
 use Rattle.std.specs.Prelude.{ℕ, zero, suc, ◌+◌, ◌≤◌, ◌≡◌, refl, List, [], ◌∷◌, map, length}
 use Rattle.std.proofs.Common.{ap, ap₂, sym, ◌∙◌, append_assoc, append-nil, arith}
 use Rattle.std.proofs.Math.ListN.{length-append}
-use Rattle.text_rules.specs.Bytes.{ascii, joined, put_at}
+use Rattle.text_rules.specs.Bytes.{ascii, joined}
 use Rattle.text_rules.specs.Decimal.{decimal}
-use Rattle.text_rules.proofs.WriterLaws.{joined_length, put_then}
-use Rattle.gate_rules.specs.Baseline.{Entry, entries_of_lines}
+use Rattle.text_rules.proofs.WriterLaws.{joined_length}
+use Rattle.gate_rules.specs.Baseline.{Entry}
 use Rattle.gate_rules.specs.Check.{listed, listing, regressions, spaced, stale, stale_text, verdict_text}
 use Rattle.gate_rules.specs.Functions.{Fun, Limits}
-use Rattle.gate_rules.specs.Gate.{gate}
-use Rattle.gate_rules.specs.Scan.{functions_of}
 use Rattle.listing.specs.Texts.{regression_count-length, regression_count}
-
--- the regression lines of a tree against a baseline's lines
-abbrev pub worse_in : Limits → (tree lines : List ℕ) → List (List ℕ)
-worse_in L tree lines = regressions L (entries_of_lines lines) (functions_of gate tree)
+use Rattle.listing.specs.Writes.{Writes, writes_then}
+use Rattle.listing.specs.declared.Writer.{Writer}
 
 -- ---- the stale entries
 
@@ -101,24 +97,14 @@ verdict-length (r ∷ rs) = verdict-some (length (r ∷ rs)) (r ∷ rs) refl (om
 -- ---- both
 
 module _ (L : Limits) (es : List Entry) (fs : List Fun) where
-  abbrev stales : List ℕ
-  stales = stale_text (stale es fs)
-
-  abbrev verdict : List ℕ
-  verdict = verdict_text (regressions L es fs)
-
   pub both-length : length (listing L es fs) ≡ length (stale_text (stale es fs)) + length (verdict_text (regressions L es fs))
   unfolding listing
-  both-length = length-append stales verdict
+  both-length = length-append (stale_text (stale es fs)) (verdict_text (regressions L es fs))
 
   -- the verdict put behind the text about the stale entries
-  pub both-put : (next end : ℕ) (s t u : List ℕ) → length (listing L es fs) ≤ length s
-      → (next ≡ 0 + length (stale_text (stale es fs))) × (t ≡ put_at 0 (stale_text (stale es fs)) s)
-      → (end ≡ next + length (verdict_text (regressions L es fs))) × (u ≡ put_at next (verdict_text (regressions L es fs)) t)
-      → (end ≡ length (listing L es fs)) × (u ≡ put_at 0 (listing L es fs) s)
+  pub both-put : {old mid new : Writer} → Writes (stale_text (stale es fs)) old mid → Writes (verdict_text (regressions L es fs)) mid new → Writes (listing L es fs) old new
   unfolding listing
-  both-put next end s t u h a b =
-      (omega (arith, a.0, b.0, both-length), put_then 0 next stales verdict s t u (omega arith) a.0 a.1 b.1)
+  both-put a b = writes_then a b
 
   -- the length of the listing by what is measured
   pub measured-length : (count bytes number size : ℕ) → count ≡ length (stale es fs) → bytes ≡ length (listed (map spaced (stale es fs)))

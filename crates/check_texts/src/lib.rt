@@ -1,129 +1,73 @@
 // The two texts of check's listing, that about the stale entries and the verdict: how many bytes they take, and their writers.
 #![tactic(auto)]
 
-ghost use Rattle.std.specs.Prelude.{◌≡◌, true, false, map, ◌+◌, ◌≤◌, length};
-ghost use Rattle.text_rules.specs.Bytes.{put_at};
-ghost use Rattle.gate_rules.specs.Check.{listed, spaced, stale_text, verdict_text};
-ghost use Rattle.gate_rules.specs.Gate.{gate};
-ghost use Rattle.gate_rules.specs.Scan.{functions_of};
+ghost use Rattle.std.specs.Prelude.{◌≡◌, ◌≤◌, length};
+ghost use Rattle.gate_rules.specs.Check.{stale_text, verdict_text};
 ghost use Rattle.functions.specs.Shown.{limits_of};
-ghost use Rattle.baseline.specs.Ordered.{Unfalling, keys_in};
-ghost use Rattle.places.specs.Places.{Filled};
-ghost use Rattle.in_order.specs.StaleKeys.{AllStand, stale_in};
-ghost use Rattle.in_order.specs.Whole.{Whole};
-ghost use Rattle.check_texts.specs.Texts.{some_stale, stale_length, verdict_length, worse_in};
+ghost use Rattle.listing.specs.Writes.{Room, Writes};
+ghost use Rattle.regressions.specs.Worse.{worse_in};
+ghost use Rattle.in_order.specs.StaleKeys.{stale_in};
+ghost use Rattle.stale.specs.Known.{Known};
+ghost use Rattle.check_texts.specs.Texts.{stale_length, verdict_length};
 
-use functions::Limits;
+use functions::{Functions, Limits};
+use listing::{Size, Writer};
+use regressions::Entries;
+use stale::Stale;
 
 // ---- the stale entries
 
 // The bytes of the text about them. Where there are none, there is no text.
-pub fn stale_length(count: usize, bytes: usize) -> usize
-    requires { bytes ≤ 1000000000000 }
-    ensures { (result ≡ stale_length count bytes) × (result ≤ 1000000000100) }
+pub fn stale_length(keys: Size) -> usize
+    requires { keys.bytes ≤ 1000000000000 }
+    ensures { (result ≡ stale_length keys.count keys.bytes) × (result ≤ 1000000000100) }
 {
-    if count == 0 {
+    if keys.count == 0 {
         return 0;
     }
-    listing::digits(count as u64) + 35 + bytes + 26
+    listing::digits(keys.count as u64) + 35 + keys.bytes + 26
 }
 
-// The text, where there are some.
-fn put_stale_text(
-    tree: &[u8],
-    lent: &[u8],
-    n: usize,
-    lines: &[u8],
-    ordered: bool,
-    whole: bool,
-    count: usize,
-    output: &mut [u8],
-    at: usize,
-) -> usize
-    requires { AllStand tree.now lent.now n
-        × (count ≡ length (stale_in tree.now lines.now))
-        × (1 ≤ count)
-        × (at + some_stale count (length (listed (map spaced (stale_in tree.now lines.now)))) ≤ length output.old)
-        × (length lines.now ≤ 33554432)
-        × (ordered ≡ true → Unfalling (keys_in lines.now))
-        × (whole ≡ true → Whole tree.now lines.now) }
-    ensures { (result ≡ at + some_stale count (length (listed (map spaced (stale_in tree.now lines.now)))))
-        × (output.new ≡ put_at at (stale_text (stale_in tree.now lines.now)) output.old) }
+// The text about the stale entries.
+pub fn write_stale(w: &mut Writer<'_>, fs: Functions, lines: &[u8], stale: Stale)
+    requires counted { stale.size.count ≡ length (stale_in fs.tree.now lines.now) }
+    requires known { Known stale.order fs.tree.now lines.now }
+    requires short { length lines.now ≤ 33554432 }
+    requires room { Room (stale_text (stale_in fs.tree.now lines.now)) w.old }
+    ensures { Writes (stale_text (stale_in fs.entry.tree.now lines.now)) w.old w.new }
 {
-    let words = listing::put_number(output, at, count as u64);
-    let keys = listing::put_text(output, words, b" baseline entries no longer exist:\n");
-    let end = stale::put_all(tree, lent, n, lines, ordered, whole, output, keys);
-    listing::put_text(output, end, b"run --update to drop them\n")
-}
-
-// The text about the stale entries, of which there are `count`.
-pub fn put_stale(
-    tree: &[u8],
-    lent: &[u8],
-    n: usize,
-    lines: &[u8],
-    ordered: bool,
-    whole: bool,
-    count: usize,
-    output: &mut [u8],
-    at: usize,
-) -> usize
-    requires { AllStand tree.now lent.now n
-        × (count ≡ length (stale_in tree.now lines.now))
-        × (at + length (stale_text (stale_in tree.now lines.now)) ≤ length output.old)
-        × (length lines.now ≤ 33554432)
-        × (ordered ≡ true → Unfalling (keys_in lines.now))
-        × (whole ≡ true → Whole tree.now lines.now) }
-    ensures { (result ≡ at + length (stale_text (stale_in tree.now lines.now)))
-        × (output.new ≡ put_at at (stale_text (stale_in tree.now lines.now)) output.old) }
-{
-    if count == 0 {
-        return at;
+    if stale.size.count == 0 {
+        return;
     }
-    put_stale_text(tree, lent, n, lines, ordered, whole, count, output, at)
+    w.number(stale.size.count as u64);
+    w.text(b" baseline entries no longer exist:\n");
+    stale::write_all(fs, lines, stale.order, w);
+    w.text(b"run --update to drop them\n");
 }
 
 // ---- the verdict
 
 // The bytes of the verdict and of the regression lines.
-pub fn verdict_length(count: usize, bytes: usize) -> usize
-    requires { bytes ≤ 1000000000000 }
-    ensures { (result ≡ verdict_length count bytes) × (result ≤ 1000000000100) }
+pub fn verdict_length(worse: Size) -> usize
+    requires { worse.bytes ≤ 1000000000000 }
+    ensures { (result ≡ verdict_length worse.count worse.bytes) × (result ≤ 1000000000100) }
 {
-    if count == 0 {
+    if worse.count == 0 {
         return 70;
     }
-    25 + listing::digits(count as u64) + bytes
+    25 + listing::digits(worse.count as u64) + worse.bytes
 }
 
 // The verdict and the regression lines, of which there are `count`.
-pub fn put_verdict(
-    limits: Limits,
-    tree: &[u8],
-    lent: &[u8],
-    n: usize,
-    lines: &[u8],
-    ordered: bool,
-    places: &[u32; 8192],
-    count: usize,
-    output: &mut [u8],
-    at: usize,
-) -> usize
-    requires { AllStand tree.now lent.now n
-        × (count ≡ length (worse_in (limits_of limits) tree.now lines.now))
-        × (at + length (verdict_text (worse_in (limits_of limits) tree.now lines.now)) ≤ length output.old)
-        × (ordered ≡ true → Unfalling (keys_in lines.now))
-        × (ordered ≡ false → Filled lines.now (functions_of gate tree.now) places.now) }
-    ensures { (result ≡ at + length (verdict_text (worse_in (limits_of limits) tree.now lines.now)))
-        × (output.new ≡ put_at at (verdict_text (worse_in (limits_of limits) tree.now lines.now)) output.old) }
+pub fn write_verdict(w: &mut Writer<'_>, entries: Entries, limits: Limits, count: usize)
+    requires counted { count ≡ length (worse_in (limits_of limits) entries.functions.tree.now entries.lines.now) }
+    requires room { Room (verdict_text (worse_in (limits_of limits) entries.functions.tree.now entries.lines.now)) w.old }
+    ensures { Writes (verdict_text (worse_in (limits_of limits) entries.entry.functions.tree.now entries.entry.lines.now)) w.old w.new }
 {
     if count == 0 {
-        return listing::put_text(
-            output,
-            at,
-            b"complexity: no function got worse, nothing new is over the thresholds\n",
-        );
+        w.text(b"complexity: no function got worse, nothing new is over the thresholds\n");
+        return;
     }
-    let first = listing::put_counted(output, at, count as u64);
-    regressions::put_all(tree, lent, n, lines, ordered, places, limits, output, first)
+    w.counted(count as u64);
+    regressions::write_all(w, entries, limits);
 }

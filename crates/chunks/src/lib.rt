@@ -183,6 +183,9 @@ fn put_body(t: &mut [u16; 36865], j: usize, c: Chunk)
     t[32769 + j] = c.ended as u16;
 }
 
+// Kept: a text and its sums are two parameters in this crate. The sums are lent to be written in two functions and to be read in the others, and the
+// text is only read.
+
 // The sums of all chunks.
 fn write_all(s: &[u8], t: &mut [u16; 36865])
     requires { length t.old ≡ 36865 }
@@ -198,6 +201,7 @@ fn write_all(s: &[u8], t: &mut [u16; 36865])
 }
 
 // Nothing is told.
+// Kept: `windows::clear` sets another number of another array, and each crate says in its own words what that tells.
 pub fn clear(t: &mut [u16; 36865])
     requires { length t.old ≡ 36865 }
     ensures { (length t.new ≡ 36865) × (get_or t.new 0 0 ≡ 0) }

@@ -80,6 +80,8 @@ impl Classes {
     }
 }
 
+// Kept: who asks a single byte has no table to lend, so these stand beside the methods.
+
 // The class of a byte.
 pub fn class(b: u8) -> Kind
     ensures { number_of result ≡ class_of b }

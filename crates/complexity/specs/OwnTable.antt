@@ -4,10 +4,10 @@ use Rattle.std.specs.Prelude.{◌≡◌, refl, List, [], ◌∷◌, length, drop
 use Rattle.std.proofs.Common.{arith, le-ltb}
 use Rattle.std.proofs.Math.Seq.{drop_at}
 use Rattle.text_rules.specs.Answer.{answer_at}
-use Rattle.text_rules.specs.Bytes.{◌or_else◌}
 use Rattle.text_rules.specs.U32.{u32_bytes, u32s_bytes}
 use Rattle.gate_rules.specs.Calls.{output_after, records_after, work_after}
 use Rattle.gate_rules.proofs.ExportLaws.{EndsAs}
+use Rattle.gate_rules.proofs.RefusalLaws.{or_else_twice}
 use Rattle.gate_rules.specs.Exports.{export_number, exported_at, exported_report}
 use Rattle.gate_rules.specs.Functions.{Limits}
 use Rattle.gate_rules.specs.Gate.{gate}
@@ -15,10 +15,6 @@ use Rattle.gate_rules.specs.Report.{empty_sums}
 use Rattle.gate_rules.specs.ReportCall.{report_call, report_number, report_of}
 use Rattle.gate_rules.specs.Scan.{functions_of}
 use Rattle.gate_rules.specs.Tree.{tree_refusal}
-
-twice : (m n : ℕ) → (m or_else (m or_else n)) ≡ (m or_else n)
-twice zero n = refl
-twice (suc m) n = refl
 
 -- what a call with two counts leaves at a number
 module _ (tree text work records output counts : List ℕ) (written functions : ℕ) where
@@ -50,7 +46,7 @@ module _ (tree text work records output counts : List ℕ) (written functions : 
 module _ (L : Limits) (tree work records output counts : List ℕ) (h : 8 ≤ length counts) where
   own : export_number gate 8 tree counts (report_number gate L tree work records empty_sums output) ≡ report_number gate L tree work records empty_sums output
   unfolding export_number report_number gate
-  own = rw (le-ltb (length counts) 8 h) (twice (tree_refusal tree) _)
+  own = rw (le-ltb (length counts) 8 h) (or_else_twice (tree_refusal tree) _)
 
   pub report-own_export : let c = report_call gate L tree work records empty_sums output in
       EndsAs 8 (c.answer.written ∷ c.answer.functions ∷ []) c.answer.number c.work c.records c.output counts

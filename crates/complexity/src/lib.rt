@@ -1,11 +1,13 @@
-// The calls for hosts, on byte slices, which the crate complexity_c exports to C. Each returns the call's number: 0 on success, or what was refused. On
-// success the counts are put into lent bytes, four for each, the lowest first; a refusal leaves them as they were.
+// The calls for hosts, on byte slices, which the crate complexity_c exports to C. Each returns the call's number: 0 on success, or what was refused.
+// On success the counts are put into lent bytes, four for each, the lowest first; a refusal leaves them as they were.
+// Kept: a host lends each buffer on its own, as C passes it, so that no struct holds the buffers of a call.
+// Kept: four calls ask for room, call, and tell the counts. Two forms were tried: a function over the call as a closure, whose bound names the number
+// of counts, which Rattle does not cover; and a `map` of the answer to an array, of which nothing is known where `map` returns.
 #![tactic(auto)]
 
 ghost use Rattle.std.specs.Prelude.{◌≡◌, [], ◌++◌, map, ◌*◌, ◌≤◌, length, drop};
 ghost use Rattle.text_rules.specs.Bytes.{◌or_else◌, joined};
 ghost use Rattle.text_rules.specs.U32.{u32_bytes};
-ghost use Rattle.answers.specs.Numbers.{number_of};
 ghost use Rattle.gate_rules.specs.Exports.{exported_blank, exported_check, exported_report, exported_scan, exported_update};
 ghost use Rattle.gate_rules.specs.Functions.{gate_limits};
 ghost use Rattle.gate_rules.specs.Gate.{gate};
@@ -24,24 +26,21 @@ const UPDATE_COUNTS: usize = 12;
 
 const REPORT_COUNTS: usize = 8;
 
-// Why a call is refused that lends too few bytes for the counts: 5, at 5's place in the order.
-fn too_few(tree: &[u8]) -> Refusal
-    ensures { number_of result ≡ (tree_refusal tree.now or_else 5) }
+// The number of a call that lends too few bytes for the counts: 5, at 5's place in the order.
+fn too_few(tree: &[u8]) -> u32
+    ensures { result ≡ (tree_refusal tree.now or_else 5) }
 {
-    match tree::accept(tree) {
-        Ok(()) => Refusal::Work,
-        Err(refusal) => refusal,
-    }
+    u32::from(tree::refusal_or(tree, Refusal::Work))
 }
 
-// Numbers of four bytes each, at the start of the lent bytes.
-fn put_counts<const N: usize>(values: [u32; N], counts: &mut [u8])
+// The number of success. The counts are put, four bytes for each, at the start of the lent bytes.
+fn told<const N: usize>(values: [u32; N], counts: &mut [u8]) -> u32
     requires { 4 * N ≤ length counts.old }
-    ensures { counts.new ≡ joined (map u32_bytes values.entry) ++ drop (4 * N) counts.old }
+    ensures number { result ≡ 0 }
+    ensures counts { counts.new ≡ joined (map u32_bytes values.entry) ++ drop (4 * N) counts.old }
 {
-    for (i, value) in values.iter().enumerate() {
-        words::put_u32(counts, 4 * i, *value);
-    }
+    words::put_u32s(counts, 0, values);
+    0
 }
 
 // A text, blanked.
@@ -57,13 +56,10 @@ pub fn complexity_scan(tree: &[u8], work: &mut [u8], records: &mut [u8], counts:
         work.new records.new [] counts.new }
 {
     if counts.len() < SCAN_COUNTS {
-        return u32::from(too_few(tree));
+        return too_few(tree);
     }
     match gate_scan::scan(tree, work, records) {
-        Ok(functions) => {
-            put_counts([functions], counts);
-            0
-        }
+        Ok(functions) => told([functions], counts),
         Err(refusal) => u32::from(refusal),
     }
 }
@@ -81,13 +77,10 @@ pub fn complexity_check(
         work.new records.new output.new counts.new }
 {
     if counts.len() < CHECK_COUNTS {
-        return u32::from(too_few(tree));
+        return too_few(tree);
     }
     match gate_check::check(tree, baseline, work, records, output) {
-        Ok(c) => {
-            put_counts([c.written, c.functions, c.regressed, c.stale], counts);
-            0
-        }
+        Ok(c) => told([c.written, c.functions, c.regressed, c.stale], counts),
         Err(refusal) => u32::from(refusal),
     }
 }
@@ -104,13 +97,10 @@ pub fn complexity_update(
         work.new records.new output.new counts.new }
 {
     if counts.len() < UPDATE_COUNTS {
-        return u32::from(too_few(tree));
+        return too_few(tree);
     }
     match gate_update::update(tree, work, records, output) {
-        Ok(c) => {
-            put_counts([c.written, c.functions, c.recorded], counts);
-            0
-        }
+        Ok(c) => told([c.written, c.functions, c.recorded], counts),
         Err(refusal) => u32::from(refusal),
     }
 }
@@ -127,13 +117,10 @@ pub fn complexity_report(
         work.new records.new output.new counts.new }
 {
     if counts.len() < REPORT_COUNTS {
-        return u32::from(too_few(tree));
+        return too_few(tree);
     }
     match gate_report::report_alone(tree, work, records, output) {
-        Ok(c) => {
-            put_counts([c.written, c.functions], counts);
-            0
-        }
+        Ok(c) => told([c.written, c.functions], counts),
         Err(refusal) => u32::from(refusal),
     }
 }

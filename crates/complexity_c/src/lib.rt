@@ -1,4 +1,5 @@
 // The calls for C hosts, of the crate complexity, under the names of include/complexity.h. C passes a slice as a pointer and a length.
+// Kept: C links by these five names, each with parameters of its own, so that no generic function stands for them.
 #![tactic(auto)]
 
 ghost use Rattle.std.specs.Prelude.{[]};

@@ -3,28 +3,18 @@
 #![tactic(auto)]
 
 ghost use Rattle.std.specs.Prelude.{◌≡◌};
-ghost use Rattle.answers.specs.Numbers.{number_of, refusal_number};
+ghost use Rattle.answers.specs.Numbers.{refusal_number};
 ghost use Rattle.programs.specs.Lines.{Starts};
 ghost use Rattle.gate_rules.specs.Programs.{check_program};
 ghost use Rattle.gate_rules.specs.Programs.{lent as zeros};
-ghost use Rattle.complexity_check.specs.Printed.{length_refusal, long_baseline};
+ghost use Rattle.complexity_check.specs.Printed.{length_refusal};
 
 use answers::Refusal;
 
 // The bytes that a file may have.
 const MOST: usize = 65536;
 
-// Why the check is refused where the baseline is too long: the tree's own refusals come first.
-fn long_baseline(tree: &[u8]) -> Refusal
-    ensures { number_of result ≡ long_baseline tree.now }
-{
-    match tree::accept(tree) {
-        Ok(()) => Refusal::Baseline,
-        Err(refusal) => refusal,
-    }
-}
-
-// Whether both files are short enough.
+// Whether both files are short enough. The tree's own refusals come before that of a baseline that is too long.
 #[tactic(auto, unfolding(crate::specs::Printed::length_refusal))]
 fn short_enough(tree: &[u8], baseline: &[u8]) -> Result<(), Refusal>
     ensures { refusal_number result ≡ length_refusal tree.now baseline.now }
@@ -33,7 +23,7 @@ fn short_enough(tree: &[u8], baseline: &[u8]) -> Result<(), Refusal>
         return Err(Refusal::Length);
     }
     if MOST < baseline.len() {
-        return Err(long_baseline(tree));
+        return Err(tree::refusal_or(tree, Refusal::Baseline));
     }
     Ok(())
 }
@@ -58,27 +48,18 @@ fn put_answer(
     }
 }
 
-// Prints what check says.
-fn answer(rt: &(impl Print + Eprint), tree: &[u8], baseline: &[u8]) {
-    let mut work = [0u8; 65536];
-    let mut lent = [0u8; 65536];
-    let mut output = [0u8; 65536];
-    let n = put_answer(tree, baseline, &mut work, &mut lent, &mut output);
-    programs::print(rt, &output[..n]);
-}
-
 fn main(rt: HostRuntime) {
-    let mut tree = [0u8; 65537];
-    let t = programs::read_tree(&rt, &mut tree);
-    if t.failed {
+    let mut tree_bytes = [0u8; 65537];
+    let Some(tree_end) = programs::read_tree(&rt, &mut tree_bytes) else {
         return;
-    }
-    let mut baseline = [0u8; 65537];
-    let b = programs::read_baseline(&rt, &mut baseline);
-    if b.failed {
+    };
+    let mut baseline_bytes = [0u8; 65537];
+    let Some(baseline_end) = programs::read_baseline(&rt, &mut baseline_bytes) else {
         return;
-    }
-    let tree_end = t.count;
-    let baseline_end = b.count;
-    answer(&rt, &tree[..tree_end], &baseline[..baseline_end]);
+    };
+    let tree = &tree_bytes[..tree_end];
+    let baseline = &baseline_bytes[..baseline_end];
+    programs::print_made(&rt, |work, lent, output| {
+        put_answer(tree, baseline, work, lent, output)
+    });
 }

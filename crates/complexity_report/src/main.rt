@@ -27,21 +27,14 @@ fn put_answer(tree: &[u8], work: &mut [u8], lent: &mut [u8], output: &mut [u8]) 
     }
 }
 
-// Prints the report.
-fn answer(rt: &(impl Print + Eprint), tree: &[u8]) {
-    let mut work = [0u8; 65536];
-    let mut lent = [0u8; 65536];
-    let mut output = [0u8; 65536];
-    let n = put_answer(tree, &mut work, &mut lent, &mut output);
-    programs::print(rt, &output[..n]);
-}
-
 fn main(rt: HostRuntime) {
-    let mut tree = [0u8; 65537];
-    let t = programs::read_tree(&rt, &mut tree);
-    if t.failed {
+    let mut bytes = [0u8; 65537];
+    let Some(end) = programs::read_tree(&rt, &mut bytes) else {
         return;
-    }
-    let end = t.count;
-    answer(&rt, &tree[..end]);
+    };
+    let tree = &bytes[..end];
+    programs::print_made(
+        &rt,
+        |work, lent, output| put_answer(tree, work, lent, output),
+    );
 }

@@ -11,6 +11,7 @@ ghost use Rattle.programs.specs.Lines.{Starts};
 ghost use Rattle.complexity_update.specs.Answered.{FileLies, closing, file_of, refusal_line};
 
 use answers::Refusal;
+use listing::Writer;
 use std::rt::Files;
 
 // The bytes that a tree may have.
@@ -28,9 +29,11 @@ fn put_closing(line: &mut [u8], recorded: u32) -> usize
     requires { 61 ≤ length line.old }
     ensures { Starts result line.new (closing recorded) }
 {
-    let count = listing::put_text(line, 0, b"tools/complexity-baseline.tsv: ");
-    let words = listing::put_number(line, count, recorded as u64);
-    listing::put_text(line, words, b" functions recorded\n")
+    let mut w = Writer { out: line, at: 0 };
+    w.text(b"tools/complexity-baseline.tsv: ");
+    w.number(recorded as u64);
+    w.text(b" functions recorded\n");
+    w.at
 }
 
 // A refusal, with its line.
@@ -88,10 +91,8 @@ fn answer(rt: &(impl Files + Print + Eprint), tree: &[u8]) {
 
 fn main(rt: HostRuntime) {
     let mut tree = [0u8; 65537];
-    let t = programs::read_tree(&rt, &mut tree);
-    if t.failed {
+    let Some(end) = programs::read_tree(&rt, &mut tree) else {
         return;
-    }
-    let end = t.count;
+    };
     answer(&rt, &tree[..end]);
 }

@@ -2,7 +2,7 @@
 // bytes in which it cannot end are passed.
 #![tactic(auto)]
 
-ghost use Rattle.std.specs.Prelude.{◌≡◌, ◌⊎◌, true, ◌+◌, ◌-◌, ◌≤◌, ◌<◌, min, length};
+ghost use Rattle.std.specs.Prelude.{◌≡◌, ◌⊎◌, true, ◌+◌, ◌-◌, ◌≤◌, ◌<◌, length};
 ghost use Rattle.text_rules.specs.Search.{count_after};
 ghost use Rattle.source_rules.specs.Finding.{flat};
 ghost use Rattle.blocks.specs.Blocks.{count_from};
@@ -17,8 +17,8 @@ pub fn count_after(x: u8, b: u8, n: usize) -> usize
     n + usize::from(b == x)
 }
 
-// What a search for a body has counted: angle brackets that are open, and square ones that were opened and closed. Square depth may go negative, so what was
-// opened and what was closed is counted apart.
+// What a search for a body has counted: angle brackets that are open, and square ones that were opened and closed. Square depth may go negative, so
+// what was opened and what was closed is counted apart.
 #[derive(Clone, Copy, Default)]
 pub struct Counts {
     pub angle: usize,
@@ -43,9 +43,9 @@ impl Counts {
             || t.opens < self.closed.saturating_sub(self.opened)
     }
 
-    // Whether a search for a body passes the whole block at a place, and the counts behind it follow from its brackets. No search ends in a block that
-    // closes fewer angle or square brackets than are open, nor in one without `{` and `;`. Where it closes more angle brackets than are open, some `>`
-    // lowers nothing, and with a `<` behind that one the numbers would not tell the depth.
+    // Whether a search for a body passes the whole block at a place, and the counts behind it follow from its brackets. No search ends in a block
+    // that closes fewer angle or square brackets than are open, nor in one without `{` and `;`. Where it closes more angle brackets than are open,
+    // some `>` lowers nothing, and with a `<` behind that one the numbers would not tell the depth.
     fn passes(self, s: &[u8], at: usize, t: Tally) -> bool
         requires { (at + 16 ≤ length s.now) × Tallies s.now at t }
         ensures { result ≡ true → Passable s.now at 16 self }
@@ -77,8 +77,8 @@ impl Counts {
     }
 }
 
-// What a search for a body meets up to a place: the brace, a `;` that ends it, with the place behind that, or nothing, with the counts that it has there.
-// Nothing rests on the place behind a `;` but time.
+// What a search for a body meets up to a place: the brace, a `;` that ends it, with the place behind that, or nothing, with the counts that it has
+// there. Nothing rests on the place behind a `;` but time.
 #[derive(Clone, Copy)]
 pub enum Reached {
     Brace(usize),
@@ -88,6 +88,7 @@ pub enum Reached {
 
 // The brace that opens a body, sought from one place up to another: the first one at angle and square depth 0, if no `;` stands there before it.
 // A `;` inside, as in `[u8; 4]`, ends nothing. Byte by byte.
+// Kept: the part and the counts are parameters here and below. Each function gives another part, or other counts, to the one that it calls.
 fn body_bytes(s: &[u8], from: usize, to: usize, n: Counts) -> Reached
     requires { (from ≤ to) × (to ≤ length s.now) × Counted n from }
     ensures { Reaches s.now from to n result }
@@ -116,8 +117,8 @@ struct Tally {
     closes: usize,
 }
 
-// How many bytes of a block are `x`. Few blocks have brackets of each kind, and to ask is shorter than to count. Counts that follow each other without a
-// question are mixed by the compiler, and take as long as byte by byte.
+// How many bytes of a block are `x`. Few blocks have brackets of each kind, and to ask is shorter than to count. Counts that follow each other
+// without a question are mixed by the compiler, and take as long as byte by byte.
 #[tactic(auto, using(crate::specs::BlockLaws::count_lacking))]
 fn count_asked(s: &[u8], at: usize, x: u8) -> usize
     requires { at + 16 ≤ length s.now }
@@ -158,9 +159,8 @@ fn body_blocks(s: &[u8], from: usize, to: usize, n: Counts) -> Halt
     requires { (from ≤ to) × (to ≤ length s.now) × Counted n from }
     ensures { Halts s.now from to n result }
 {
-    let mut at = from;
     let mut counts = n;
-    while at < to {
+    for at in (from..to).step_by(blocks::WIDTH) {
         if to - at < blocks::WIDTH {
             return Halt { at, counts };
         }
@@ -169,9 +169,8 @@ fn body_blocks(s: &[u8], from: usize, to: usize, n: Counts) -> Halt
             return Halt { at, counts };
         }
         counts = counts.behind(t);
-        at += blocks::WIDTH;
     }
-    Halt { at, counts }
+    Halt { at: to, counts }
 }
 
 // The bytes that are read one by one where a block cannot be passed, before the next is asked: a text of such blocks loses little by the questions.
@@ -185,6 +184,7 @@ fn body_further(s: &[u8], from: usize, to: usize, n: Counts) -> Reached
 {
     let mut at = from;
     let mut counts = n;
+    // Kept: a turn passes any number of blocks and then a stretch of bytes, so no `for` counts the turns.
     while at < to {
         let q = body_blocks(s, at, to, counts);
         let stop = q.at.saturating_add(STRETCH).min(to);
@@ -211,19 +211,4 @@ pub fn body_before(s: &[u8], from: usize, to: usize, n: Counts) -> Reached
         Reached::Further(m) => body_further(s, near, to, m),
         ended => ended,
     }
-}
-
-// A difference, 0 where it would be below.
-pub fn less(a: usize, b: usize) -> usize
-    ensures { result ≡ a - b }
-{
-    a.saturating_sub(b)
-}
-
-// So many bytes further on, at most a place.
-pub fn ahead(from: usize, many: usize, to: usize) -> usize
-    requires { from ≤ to }
-    ensures { result ≡ min (from + many) to }
-{
-    from.saturating_add(many).min(to)
 }

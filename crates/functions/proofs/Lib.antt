@@ -1,2 +1,3 @@
 -- The laws that the functions cite.
 pub mod Read
+pub mod ShortLaws

@@ -17,14 +17,14 @@ use Rattle.source_rules.proofs.BlankLaws.{blanked-length}
 use Rattle.source_rules.specs.TextScan.{TextFun, functions}
 use Rattle.source_rules.proofs.TextScanLaws.{Fine, functions-fine}
 use Rattle.gate_rules.proofs.FileLaws.{span-is}
+use Rattle.gate_rules.specs.Functions.{Fun}
 use Rattle.gate_rules.specs.Gate.{gate}
 use Rattle.gate_rules.specs.Records.{name_of, record_bytes, record_of, records, records_in, records_of_files, viewed}
 use Rattle.gate_rules.proofs.RecordsLaws.{functions-viewed, record_u32, records-count}
 use Rattle.gate_rules.specs.Scan.{functions_of}
 use Rattle.gate_rules.specs.Tree.{Source, entry_at, file_count, path_length, path_of, path_offset, source_at, sources, sources_from}
 use Rattle.gate_rules.proofs.TreeLaws.{InTree, SoundTree, sources-placed, unrefused}
-use Rattle.functions.specs.Shown.{Stand, no_fun, shown}
-use Rattle.functions.specs.declared.Function.{Function}
+use Rattle.functions.specs.Shown.{Stand, no_fun}
 
 -- what holds of a record of a tree
 pub record Tells (tree r : List ℕ) : Type 0 where
@@ -105,7 +105,7 @@ module _ (tree : List ℕ) where
   many-wide (r ∷ rs) h = length-append (record_bytes r) (joined (map record_bytes rs)) ∙ (omega (arith, h.0.wide, many-wide rs h.1))
 
 -- what stands at a place that a list has
-at_place : {A : Type 0} (P : A → Type 0) (xs : List A) → All P xs → (d : A) (k : ℕ) → k < length xs → P (get_or xs k d)
+pub at_place : {A : Type 0} (P : A → Type 0) (xs : List A) → All P xs → (d : A) (k : ℕ) → k < length xs → P (get_or xs k d)
 at_place P [] h d k l = absurd (omega arith)
 at_place P (x ∷ xs) h d zero l = h.0
 at_place P (x ∷ xs) h d (suc k) l = at_place P xs h.1 d k (omega arith)
@@ -147,26 +147,29 @@ module _ (tree lent : List ℕ) (st : Stand tree lent) (k : ℕ) (h : k < length
       ∙ ap (λ fs. get_or fs k (viewed tree [])) (sym (functions-viewed tree sound))
       ∙ any-default (functions_of gate tree) (viewed tree []) no_fun k h
 
-  -- path and name by their bounds
-  pub record Bounds (f : Function) : Type 0 where
-    pub path-first : f.path_at ≡ path_offset tree (entry_at (get_or here 0 0))
-    pub path-last : f.path_end ≡ path_offset tree (entry_at (get_or here 0 0)) + path_length tree (entry_at (get_or here 0 0))
-    pub name-first : f.name_at ≡ get_or here 1 0
-    pub name-last : f.name_end ≡ get_or here 1 0 + get_or here 2 0
+  -- path and name by their bounds, and the numbers
+  pub record Bounds (f : Fun) (path_at path_end name_at name_end : ℕ) : Type 0 where
+    pub path-is : f.path ≡ part path_at path_end tree
+    pub name-is : f.name ≡ part name_at name_end tree
+    pub path-first : path_at ≡ path_offset tree (entry_at (get_or here 0 0))
+    pub path-last : path_end ≡ path_offset tree (entry_at (get_or here 0 0)) + path_length tree (entry_at (get_or here 0 0))
+    pub name-first : name_at ≡ get_or here 1 0
+    pub name-last : name_end ≡ get_or here 1 0 + get_or here 2 0
     pub line-is : f.line ≡ get_or here 3 0
     pub lines-is : f.lines ≡ get_or here 4 0
     pub cyclomatic-is : f.cyclomatic ≡ get_or here 5 0
     pub nesting-is : f.nesting ≡ get_or here 6 0
     pub params_is : f.params ≡ get_or here 7 0
 
-  pub shown-is : (f : Function) → Bounds f → shown tree f ≡ get_or (functions_of gate tree) k no_fun
+  pub shown-is : (f : Fun) (path_at path_end name_at name_end : ℕ) → Bounds f path_at path_end name_at name_end → f ≡ get_or (functions_of gate tree) k no_fun
   unfolding viewed path_of name_of
-  shown-is f b =
-      let path : part f.path_at f.path_end tree ≡ path_of tree (get_or here 0 0) =
-      span-is tree (path_offset tree (entry_at (get_or here 0 0))) (path_length tree (entry_at (get_or here 0 0))) f.path_at f.path_end b.path-first b.path-last in
-      let name : part f.name_at f.name_end tree ≡ name_of tree here =
-      span-is tree (get_or here 1 0) (get_or here 2 0) f.name_at f.name_end b.name-first b.name-last
+  shown-is f path_at path_end name_at name_end b =
+      let path : f.path ≡ path_of tree (get_or here 0 0) =
+      b.path-is ∙ span-is tree (path_offset tree (entry_at (get_or here 0 0))) (path_length tree (entry_at (get_or here 0 0))) path_at path_end b.path-first b.path-last in
+      let name : f.name ≡ name_of tree here =
+      b.name-is
+      ∙ span-is tree (get_or here 1 0) (get_or here 2 0) name_at name_end b.name-first b.name-last
       ∙ rw (le-leb (get_or here 1 0 + get_or here 2 0) (length tree) tells-here.name-inside) in
-      let same : shown tree f ≡ viewed tree here =
+      let same : f ≡ viewed tree here =
       λ i. record { path = path i; name = name i; line = b.line-is i; lines = b.lines-is i; cyclomatic = b.cyclomatic-is i; nesting = b.nesting-is i; params = b.params_is i } in
       same ∙ function_here

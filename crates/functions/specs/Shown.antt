@@ -1,7 +1,6 @@
 -- A function read back from its record, as the rules tell it, and what must hold of a tree and of the bytes that were lent for its records.
 use Rattle.std.specs.Prelude.{ℕ, ◌*◌, ◌≤◌, ◌≡◌, List, [], map, length, take}
 use Rattle.text_rules.specs.Bytes.{joined}
-use Rattle.text_rules.specs.Search.{part}
 use Rattle.text_rules.specs.Sizes.{record_width}
 use Rattle.gate_rules.specs.Functions as rules
 use Rattle.gate_rules.specs.Gate.{gate}
@@ -15,25 +14,18 @@ use Rattle.functions.specs.declared.Limits.{Limits}
 abbrev pub limits_of : Limits → rules.Limits
 limits_of l = record { cyclomatic = l.cyclomatic; lines = l.lines; nesting = l.nesting; params = l.params }
 
--- the function of the rules that is meant in a tree
-abbrev pub shown : List ℕ → Function → rules.Fun
-shown tree f =
+-- the function of the rules that is meant
+abbrev pub shown : Function → rules.Fun
+shown f =
     record {
-      path = part f.path_at f.path_end tree;
-      name = part f.name_at f.name_end tree;
+      path = f.path.now;
+      name = f.name.now;
       line = f.line;
       lines = f.lines;
       cyclomatic = f.cyclomatic;
       nesting = f.nesting;
       params = f.params;
     }
-
--- path and name lie in the tree
-pub record Lies (tree : List ℕ) (f : Function) : Type 0 where
-  pub path-order : f.path_at ≤ f.path_end
-  pub path_inside : f.path_end ≤ length tree
-  pub name-order : f.name_at ≤ f.name_end
-  pub name-inside : f.name_end ≤ length tree
 
 -- the tree is accepted, and its records stand at the front of the bytes
 pub record Stand (tree lent : List ℕ) : Type 0 where

@@ -1,10 +1,11 @@
 -- What is read of a baseline: all of it, or nothing where it is not UTF-8.
-use mathlib.Core.Path.{◌≡◌, refl, ap}
+use mathlib.Core.Path.{◌≡◌, refl, ap, ap₂, subst}
 use mathlib.Core.Bool.{true, false}
 use mathlib.Core.List.{List, []}
-use Prim.Native.Nat.{ℕ, ◌≤◌}
+use Prim.Native.Nat.{ℕ, zero, suc, ◌≤◌}
 use native.Mathlib.Omega.{arith}
 use lib.ListN.{length}
+use Rattle.text_rules.specs.Bytes.{◌or_else◌}
 use Rattle.text_rules.specs.Lines.{ended, fields, lines_in, split}
 use Rattle.text_rules.specs.Utf8.{is_utf8, well_formed_after}
 use Rattle.gate_rules.specs.Baseline.{entries, entries_of_lines, entry_of, entry_of_fields}
@@ -14,6 +15,10 @@ use Rattle.gate_rules.specs.Gate.{gate}
 use Rattle.gate_rules.proofs.ListingSizes.{listing-length}
 use Rattle.gate_rules.specs.Scan.{Accepted, functions_of}
 use Rattle.functions.specs.Shown.{Stand}
+use Rattle.functions.specs.declared.Functions.{Functions}
+use Rattle.stale.specs.Known.{Known}
+use Rattle.stale.specs.declared.KeyOrder.{KeyOrder}
+use Rattle.regressions.specs.Worse.{worse_in}
 
 pub entries-good : (s : List ℕ) → is_utf8 s ≡ true → entries s ≡ entries_of_lines s
 unfolding entries
@@ -36,3 +41,15 @@ pub listing-small : (L : Limits) {tree lent : List ℕ} (lines : List ℕ) → S
     → length (listing L (entries_of_lines lines) (functions_of gate tree)) ≤ 90000000
 listing-small L {tree} lines s e h =
     omega (arith, listing-length L tree (accepted s) lines h, ap (λ es. length (listing L es (functions_of gate tree))) (entries-good lines e))
+
+-- what is told of equal functions and lines
+pub same_worse : (L : Limits) {t u : Functions} {s l : List ℕ} → t ≡ u → s ≡ l → worse_in L t.tree.now s ≡ worse_in L u.tree.now l
+same_worse L e d = ap₂ (λ (f : Functions) (b : List ℕ). worse_in L f.tree.now b) e d
+
+pub same_known : (o : KeyOrder) {t u : Functions} {s l : List ℕ} → t ≡ u → s ≡ l → Known o t.tree.now s → Known o u.tree.now l
+same_known o {t} {u} {s} {l} e d k = subst (λ b. Known o u.tree.now b) d (subst (λ (f : Functions). Known o f.tree.now s) e k)
+
+-- the first of two refusals is no more than the most of them
+pub or_else-most : (m n most : ℕ) → m ≤ most → n ≤ most → (m or_else n) ≤ most
+or_else-most zero n most h k = k
+or_else-most (suc m) n most h k = h

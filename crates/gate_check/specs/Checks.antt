@@ -11,11 +11,12 @@ use Rattle.text_rules.specs.Answer.{Answer, answer_at}
 use Rattle.text_rules.specs.Bytes.{◌or_else◌, ◌when◌, overwritten, put_at}
 use Rattle.text_rules.specs.BytesLaws.{or_else-first, or_else-rest, when-fails}
 use Rattle.text_rules.specs.Sizes.{max_baseline}
-use Rattle.gate_rules.specs.Baseline.{Entry, entries}
+use Rattle.gate_rules.specs.Baseline.{Entry, entries, entries_of_lines}
 use Rattle.gate_rules.specs.Calls.{CheckAnswer, Checked, check_answer, check_call, check_number, output_after, records_after, room, scan_call, scan_number, work_after}
 use Rattle.gate_rules.specs.Check.{listing, regressions, stale}
 use Rattle.gate_rules.specs.Functions.{Fun, Limits}
 use Rattle.gate_rules.specs.Gate.{gate}
+use Rattle.gate_rules.proofs.RefusalLaws.{or_else_lem}
 use Rattle.gate_rules.specs.Scan.{functions_of}
 use Rattle.gate_rules.proofs.TableLaws.{answer-number}
 use Rattle.gate_rules.specs.Tree.{tree_refusal}
@@ -52,6 +53,10 @@ pub record Refuses (r : CheckAnswer) (number : ℕ) : Type 0 where
 -- an error's counts are 0
 pub refuses : (e : Refusal) → Refuses (check_told (Err e)) (number_of e)
 refuses e = record { number_is = refl; written_is = refl; functions-is = refl; regressed-is = refl; stale-is = refl }
+
+-- the listing of a tree against a baseline's lines
+abbrev pub listing_in : Limits → (tree lines : List ℕ) → List ℕ
+listing_in L tree lines = listing L (entries_of_lines lines) (functions_of gate tree)
 
 -- the number of a check of which only the listing is left: 9 where the output is too short for it
 abbrev pub last_number : Limits → List Entry → List Fun → (output : List ℕ) → ℕ
@@ -97,10 +102,6 @@ module _ (r : CheckAnswer) (L : Limits) (es : List Entry) (fs : List Fun) (outpu
         stale-is = rw e q.4;
         output-is = rw e (o ∙ at-start (listing L es fs) output);
       }
-
-or_else_lem : (a b c : ℕ) → (a or_else b) or_else c ≡ a or_else (b or_else c)
-or_else_lem zero b c = refl
-or_else_lem (suc a) b c = refl
 
 module _ (L : Limits) (tree baseline work records' output : List ℕ) where
   -- what the call answers and leaves at a number

@@ -2,8 +2,8 @@
 // A baseline that is too long is refused before the tree is scanned. How long the listing is, is known before any of it is written.
 #![tactic(auto)]
 
-ghost use Rattle.std.specs.Prelude.{◌≡◌, true, ◌≤◌, ltb, length, take};
-ghost use Rattle.text_rules.specs.Bytes.{◌or_else◌, ◌when◌};
+ghost use Rattle.std.specs.Prelude.{◌≡◌, true, ◌≤◌, ltb, length, replicate, take};
+ghost use Rattle.text_rules.specs.Bytes.{put_at, ◌or_else◌, ◌when◌};
 ghost use Rattle.text_rules.specs.Utf8.{is_utf8};
 ghost use Rattle.gate_rules.specs.Baseline.{entries, entries_of_lines};
 ghost use Rattle.gate_rules.specs.Calls.{check_call};
@@ -13,11 +13,17 @@ ghost use Rattle.gate_rules.specs.Scan.{functions_of};
 ghost use Rattle.gate_rules.specs.Tree.{tree_refusal};
 ghost use Rattle.answers.specs.Numbers.{number_of};
 ghost use Rattle.functions.specs.Shown.{limits_of};
-ghost use Rattle.in_order.specs.StaleKeys.{AllStand};
-ghost use Rattle.gate_check.specs.Checks.{Checks, Tells, check_told};
+ghost use Rattle.listing.specs.Writes.{Room, Writes};
+ghost use Rattle.regressions.specs.Worse.{worse_in};
+ghost use Rattle.in_order.specs.StaleKeys.{stale_in};
+ghost use Rattle.stale.specs.Known.{Known};
+ghost use Rattle.gate_check.specs.Checks.{Checks, Tells, check_told, listing_in};
 
 use answers::Refusal;
-use functions::Limits;
+use functions::{Functions, Limits};
+use listing::Writer;
+use regressions::Entries;
+use stale::{KeyOrder, Stale};
 
 // The largest baseline, in bytes.
 const MAX_BASELINE: usize = 33554432;
@@ -31,50 +37,99 @@ pub struct CheckCounts {
     pub stale: u32,
 }
 
+// The baseline's entries, for the functions of the tree: where a key falls, the place of each function is noted in the lent array of zeros.
+fn entries_of<'a>(
+    fs: Functions<'a>,
+    lines: &'a [u8],
+    order: KeyOrder,
+    places: &'a mut [u32; 8192],
+) -> Entries<'a>
+    requires known { Known order fs.tree.now lines.now }
+    requires short { length lines.now ≤ 33554432 }
+    requires zeros { places.old ≡ replicate 8192 0 }
+    ensures functions { result.functions ≡ fs.entry }
+    ensures lines { result.lines.now ≡ lines.now }
+{
+    if let KeyOrder::Any = order {
+        places::fill(fs, lines, places);
+        return Entries {
+            functions: fs,
+            lines,
+            places: Some(places),
+        };
+    }
+    Entries {
+        functions: fs,
+        lines,
+        places: None,
+    }
+}
+
+// The listing.
+fn write_listing(
+    w: &mut Writer<'_>,
+    stale: Stale,
+    entries: Entries,
+    limits: Limits,
+    regressed: usize,
+)
+    requires stale { stale.size.count ≡ length (stale_in entries.functions.tree.now entries.lines.now) }
+    requires known { Known stale.order entries.functions.tree.now entries.lines.now }
+    requires short { length entries.lines.now ≤ 33554432 }
+    requires regressed { regressed ≡ length (worse_in (limits_of limits) entries.functions.tree.now entries.lines.now) }
+    requires room { Room (listing_in (limits_of limits) entries.functions.tree.now entries.lines.now) w.old }
+    ensures { Writes (listing_in (limits_of limits) entries.entry.functions.tree.now entries.entry.lines.now) w.old w.new }
+{
+    check_texts::write_stale(w, entries.functions, entries.lines, stale);
+    check_texts::write_verdict(w, entries, limits, regressed);
+}
+
+// The listing, from the first byte on, and how many bytes it has.
+fn put_listing(
+    output: &mut [u8],
+    stale: Stale,
+    entries: Entries,
+    limits: Limits,
+    regressed: usize,
+) -> usize
+    requires stale { stale.size.count ≡ length (stale_in entries.functions.tree.now entries.lines.now) }
+    requires known { Known stale.order entries.functions.tree.now entries.lines.now }
+    requires short { length entries.lines.now ≤ 33554432 }
+    requires regressed { regressed ≡ length (worse_in (limits_of limits) entries.functions.tree.now entries.lines.now) }
+    requires room { length (listing_in (limits_of limits) entries.functions.tree.now entries.lines.now) ≤ length output.old }
+    ensures end { result ≡ length (listing_in (limits_of limits) entries.entry.functions.tree.now entries.entry.lines.now) }
+    ensures bytes { output.new ≡ put_at 0 (listing_in (limits_of limits) entries.entry.functions.tree.now entries.entry.lines.now) output.old }
+{
+    let mut w = Writer { out: output, at: 0 };
+    write_listing(&mut w, stale, entries, limits, regressed);
+    w.at
+}
+
 // What check says of a scanned tree: 9, or the listing and its counts.
 fn told(
     limits: Limits,
-    tree: &[u8],
-    lent: &[u8],
-    n: usize,
+    fs: Functions,
     lines: &[u8],
     output: &mut [u8],
 ) -> Result<CheckCounts, Refusal>
-    requires { AllStand tree.now lent.now n × (is_utf8 lines.now ≡ true) × (length lines.now ≤ 33554432) }
-    ensures { Tells (check_told result) (limits_of limits) (entries_of_lines lines.now) (functions_of gate tree.now) output.old output.new }
+    requires text { is_utf8 lines.now ≡ true }
+    requires short { length lines.now ≤ 33554432 }
+    ensures { Tells (check_told result) (limits_of limits) (entries_of_lines lines.now) (functions_of gate fs.entry.tree.now) output.old output.new }
 {
-    let gone = stale::measure(tree, lent, n, lines);
-    let ordered = gone.ordered;
+    let stale = stale::measure(fs, lines);
     let mut places = [0u32; 8192];
-    if !ordered {
-        places::fill(tree, lent, n, lines, &mut places);
-    }
-    let worse = regressions::measure(tree, lent, n, lines, ordered, &places, limits);
-    let bytes = check_texts::stale_length(gone.count, gone.bytes)
-        + check_texts::verdict_length(worse.count, worse.bytes);
+    let entries = entries_of(fs, lines, stale.order, &mut places);
+    let worse = regressions::measure(entries, limits);
+    let bytes = check_texts::stale_length(stale.size) + check_texts::verdict_length(worse);
     if output.len() < bytes {
         return Err(Refusal::Output);
     }
-    let next = check_texts::put_stale(
-        tree, lent, n, lines, ordered, gone.whole, gone.count, output, 0,
-    );
-    let end = check_texts::put_verdict(
-        limits,
-        tree,
-        lent,
-        n,
-        lines,
-        ordered,
-        &places,
-        worse.count,
-        output,
-        next,
-    );
+    let written = put_listing(output, stale, entries, limits, worse.count);
     Ok(CheckCounts {
-        written: end as u32,
-        functions: n as u32,
+        written: written as u32,
+        functions: fs.count as u32,
         regressed: worse.count as u32,
-        stale: gone.count as u32,
+        stale: stale.size.count as u32,
     })
 }
 
@@ -95,11 +150,10 @@ fn long_refusal(tree: &[u8], room: usize) -> Refusal
     ensures first { number_of result ≡ tree_refusal tree.now or_else 5 when ltb room (length tree.now) or_else 7 }
     ensures most { number_of result ≤ 7 }
 {
-    match tree::accept(tree) {
-        Err(refusal) => refusal,
-        Ok(()) if room < tree.len() => Refusal::Work,
-        Ok(()) => Refusal::Baseline,
+    if room < tree.len() {
+        return tree::refusal_or(tree, Refusal::Work);
     }
+    tree::refusal_or(tree, Refusal::Baseline)
 }
 
 // The call check with any limits: the refusals 1 to 5, 7, 8 and 9; the tree's texts blanked into work, its records, and the listing.
@@ -121,18 +175,16 @@ pub fn check_with(
         return Err(long_refusal(tree, work.len()));
     }
     let functions = gate_scan::scan(tree, work, lent)?;
-    let end = read_length(baseline);
-    told(
-        limits,
+    let fs = Functions {
         tree,
-        lent,
-        functions as usize,
-        &baseline[..end],
-        output,
-    )
+        records: lent,
+        count: functions as usize,
+    };
+    told(limits, fs, &baseline[..read_length(baseline)], output)
 }
 
 // The call check.
+// Kept: `check`, `update` and `report` each hand the gate's limits to a function of their own.
 pub fn check(
     tree: &[u8],
     baseline: &[u8],

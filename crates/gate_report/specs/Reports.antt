@@ -1,17 +1,17 @@
 -- What report answers and leaves, one named equation for each of the answer's numbers, for each lent buffer and for the lent table.
 use Prim.Native.Nat.{ℕ, zero, suc, ◌+◌, ◌≤◌, ◌<◌}
-use Rattle.std.specs.Prelude.{◌≡◌, Bool, ◌||◌, List, [], ◌∷◌, ◌++◌, map, eqb, length, drop, replicate}
+use Rattle.std.specs.Prelude.{Result, ◌≡◌, Bool, ◌||◌, List, [], ◌∷◌, ◌++◌, map, eqb, length, drop, replicate}
 use Rattle.std.proofs.Math.Path.{refl, ap, subst, sym}
 use Rattle.std.proofs.Common.{ap₂, ◌∙◌}
 use Rattle.std.proofs.Math.Bool.{true, false}
 use native.Mathlib.Omega.{arith}
 use Rattle.std.proofs.Math.Dec.{ltb}
 use Rattle.std.proofs.Math.ListN.{length-map}
-use Rattle.std.proofs.lemmas.List.{length-replicate}
 use borrow.Author.Tests.{le-ltb, lt-ltb, ltb-false}
 use Rattle.text_rules.specs.Answer.{Answer, answer_at}
 use Rattle.text_rules.specs.Bytes.{◌or_else◌, ◌when◌, if◌then◌otherwise◌, overwritten}
 use Rattle.text_rules.specs.BytesLaws.{map-append, or_else-first, or_else-rest, when-fails}
+use Rattle.gate_rules.proofs.RefusalLaws.{or_else_lem}
 use Rattle.gate_rules.proofs.BufferLaws.{refusal-most}
 use Rattle.gate_rules.specs.Calls.{is_scanned, output_after, records_after, room, work_after}
 use Rattle.gate_rules.specs.Functions.{Limits}
@@ -21,13 +21,12 @@ use Rattle.gate_rules.specs.ReportCall.{Reported, report_call, report_number, re
 use Rattle.gate_rules.specs.Scan.{functions_of}
 use Rattle.gate_rules.proofs.SumLaws.{no_sum}
 use Rattle.gate_rules.specs.Tree.{file_count, sources, sources_from, tree_refusal}
-use Rattle.gate_rules.proofs.TreeLaws.{laid_out, unrefused}
 use Rattle.gate_scan.specs.Scans.{blanked_work, filled}
-use Rattle.sums.specs.Sums.{first_entries, none, stored, told}
-use Rattle.sums.specs.Table.{entries-are}
+use Rattle.sums.specs.Sums.{none, stored, told}
 use Rattle.sums.specs.declared.FileSum.{FileSum}
 use Rattle.gate_report.specs.Listed.{Listed, late_number, report_told}
-use Rattle.gate_report.specs.declared.Core.{Core}
+use Rattle.answers.specs.declared.Refusal.{Refusal}
+use Rattle.gate_report.specs.declared.ReportCounts.{ReportCounts}
 
 -- the first of the refusals 1 to 6, or 0
 unfoldable pub early_number : List ℕ → (work entries : ℕ) → ℕ
@@ -40,29 +39,6 @@ sums_at number tree = if eqb number 0 || eqb number 9 then sums_of gate tree oth
 -- a table of that many entries
 abbrev pub any_table : ℕ → List rules.FileSum
 any_table entries = replicate entries no_sum
-
-module _ (L : Limits) (tree work records : List ℕ) (entries : ℕ) (output : List ℕ) where
-  -- the number of a call that lends a table of so many entries
-  abbrev pub core_number : ℕ
-  core_number = report_number gate L tree work records (any_table entries) output
-
-  pub record CoredAt (n : ℕ) (r : Core) (work' records' output' : List ℕ) : Type 0 where
-    pub number_is : (report_told r.answer).number ≡ n
-    pub written_is : (report_told r.answer).written ≡ (answer_at n (length (report_of gate L tree)) (length (functions_of gate tree))).written
-    pub functions-is : (report_told r.answer).functions ≡ (answer_at n (length (report_of gate L tree)) (length (functions_of gate tree))).functions
-    pub work-is : work' ≡ work_after gate n tree work
-    pub records_is : records' ≡ records_after gate n tree records
-    pub output-is : output' ≡ output_after n (report_of gate L tree) output
-    pub files-few : r.files ≤ entries
-    pub files-most : r.files ≤ 1024
-    pub filled_is : first_entries r.totals.of r.files ≡ map stored (sums_at n tree)
-
-  abbrev pub Cored : Core → List ℕ → List ℕ → List ℕ → Type 0
-  Cored r work' records' output' = CoredAt core_number r work' records' output'
-
-or_else_lem : (a b c : ℕ) → (a or_else b) or_else c ≡ a or_else (b or_else c)
-or_else_lem zero b c = refl
-or_else_lem (suc a) b c = refl
 
 -- as many files as the tree's table has entries
 from-count : (tree : List ℕ) (left number entry : ℕ) → length (sources_from tree left number entry) ≡ left
@@ -121,115 +97,7 @@ module _ (tree : List ℕ) (work entries : ℕ) where
       most zero h false false = omega arith
       most (suc n) h b c = omega arith
 
-module _ (L : Limits) (tree work records : List ℕ) (entries : ℕ) (output : List ℕ) where
-  unfoldable late : ℕ
-  late = 8 when ltb (room records) (length (functions_of gate tree)) or_else late_number L tree output
-
-  number-is-early : core_number L tree work records entries output ≡ early_number tree (length work) entries or_else late
-  unfolding report_number early_number late gate
-  number-is-early =
-      let five = 5 when ltb (length work) (length tree) in
-      let six = 6 when ltb entries (file_count tree) in
-      ap (λ b. tree_refusal tree or_else (five or_else (6 when b or_else late))) (ap₂ ltb (length-replicate entries no_sum) (files-count tree))
-      ∙ sym (or_else_lem (tree_refusal tree) (five or_else six) late ∙ ap (λ n. tree_refusal tree or_else n) (or_else_lem five six late))
-
-  -- a refusal that leaves every buffer and the table
-  stay_with : (r : Core) (m : ℕ) → is_scanned (suc m) ≡ false → (eqb (suc m) 0 || eqb (suc m) 9) ≡ false
-      → ((report_told r.answer).number ≡ suc m) × ((report_told r.answer).written ≡ 0) × ((report_told r.answer).functions ≡ 0) × (r.files ≡ 0)
-      → CoredAt L tree work records entries output (suc m) r work records output
-  unfolding work_after records_after first_entries
-  stay_with r m a b q =
-      record {
-        number_is = q.0;
-        written_is = q.1;
-        functions-is = q.2;
-        work-is = rw a;
-        records_is = rw a;
-        output-is = refl;
-        files-few = omega (arith, q.3);
-        files-most = omega (arith, q.3);
-        filled_is = ap (first_entries r.totals.of) q.3 ∙ rw b;
-      }
-
-  stays : (r : Core) (n : ℕ) → 1 ≤ n → n ≤ 6 → ((report_told r.answer).number ≡ n) × ((report_told r.answer).written ≡ 0) × ((report_told r.answer).functions ≡ 0) × (r.files ≡ 0)
-      → CoredAt L tree work records entries output n r work records output
-  stays r zero h k q = absurd (omega arith)
-  stays r (suc zero) h k q = stay_with r 0 refl refl q
-  stays r (suc (suc zero)) h k q = stay_with r 1 refl refl q
-  stays r (suc (suc (suc zero))) h k q = stay_with r 2 refl refl q
-  stays r (suc (suc (suc (suc zero)))) h k q = stay_with r 3 refl refl q
-  stays r (suc (suc (suc (suc (suc zero))))) h k q = stay_with r 4 refl refl q
-  stays r (suc (suc (suc (suc (suc (suc zero)))))) h k q = stay_with r 5 refl refl q
-  stays r (suc (suc (suc (suc (suc (suc (suc n))))))) h k q = absurd (omega arith)
-
-  pub refused_core : (r : Core) (n : ℕ) → n ≡ early_number tree (length work) entries → 1 ≤ n → ((report_told r.answer).number ≡ n) × ((report_told r.answer).written ≡ 0) × ((report_told r.answer).functions ≡ 0) × (r.files ≡ 0)
-      → Cored L tree work records entries output r work records output
-  refused_core r n e h q =
-      subst (λ m. CoredAt L tree work records entries output m r work records output) (sym (number-is-early ∙ ap (λ m. m or_else late) (sym e) ∙ stop n h))
-      (stays r n h (omega (arith, e, early-most tree (length work) entries)) q)
-    where
-      stop : (m : ℕ) → 1 ≤ m → m or_else late ≡ m
-      stop zero h = absurd (omega arith)
-      stop (suc m) h = refl
-
-  -- none of them applies, and the tree is scanned
-  module _ (e : early_number tree (length work) entries ≡ 0) (r : Core) (w l : List ℕ) (w-is : w ≡ blanked_work tree work records) (l-is : l ≡ filled tree work records) where
-    listed_with : (b : Bool) → ltb (length output) (length (report_of gate L tree)) ≡ b → (left : List ℕ) → Listed L tree output r left
-        → w ≡ work_after gate (9 when b) tree work → l ≡ records_after gate (9 when b) tree records → sums_at (9 when b) tree ≡ sums_of gate tree
-        → CoredAt L tree work records entries output (9 when b) r w l left
-    listed_with b d left q x y z =
-        let few : file_count tree ≤ 1024 = (laid_out tree (unrefused tree (early-unrefused tree (length work) entries e)).laid).few in
-        record {
-          number_is = q.number_is ∙ ap (λ t. 9 when t) d;
-          written_is = q.written_is ∙ ap (λ t. (answer_at (9 when t) (length (report_of gate L tree)) (length (functions_of gate tree))).written) d;
-          functions-is = q.functions-is ∙ ap (λ t. (answer_at (9 when t) (length (report_of gate L tree)) (length (functions_of gate tree))).functions) d;
-          work-is = x;
-          records_is = y;
-          output-is = q.output-is ∙ ap (λ t. output_after (9 when t) (report_of gate L tree) output) d;
-          files-few = omega (arith, q.files-is, early-entries tree (length work) entries e);
-          files-most = omega (arith, q.files-is, few);
-          filled_is = ap (first_entries r.totals.of) q.files-is ∙ entries-are tree r.totals.of q.sums-are few ∙ ap (map stored) (sym z);
-        }
-
-    number-late : core_number L tree work records entries output ≡ late
-    number-late = number-is-early ∙ ap (λ m. m or_else late) e
-
-    many-at : ((report_told r.answer).number ≡ 8) × ((report_told r.answer).written ≡ 0) × ((report_told r.answer).functions ≡ 0) × (r.files ≡ 0) → CoredAt L tree work records entries output 8 r w l output
-    unfolding work_after records_after first_entries gate
-    many-at q =
-        record {
-          number_is = q.0;
-          written_is = q.1;
-          functions-is = q.2;
-          work-is = w-is;
-          records_is = l-is;
-          output-is = refl;
-          files-few = omega (arith, q.3);
-          files-most = omega (arith, q.3);
-          filled_is = ap (first_entries r.totals.of) q.3;
-        }
-
-    pub many_core : room records < length (functions_of gate tree) → ((report_told r.answer).number ≡ 8) × ((report_told r.answer).written ≡ 0) × ((report_told r.answer).functions ≡ 0) × (r.files ≡ 0)
-        → Cored L tree work records entries output r w l output
-    unfolding late
-    many_core h q =
-        let number : core_number L tree work records entries output ≡ 8 = number-late ∙ rw (lt-ltb (room records) (length (functions_of gate tree)) h) in
-        subst (λ m. CoredAt L tree work records entries output m r w l output) (sym number) (many-at q)
-
-    -- 0 and 9 are answered after the scan, and the table is filled
-    listed_at : (b : Bool) → ltb (length output) (length (report_of gate L tree)) ≡ b → (left : List ℕ) → Listed L tree output r left → CoredAt L tree work records entries output (9 when b) r w l left
-    unfolding work_after records_after gate
-    listed_at true d left q = listed_with true d left q w-is l-is refl
-    listed_at false d left q = listed_with false d left q w-is l-is refl
-
-    pub listed_core : (left : List ℕ) → length (functions_of gate tree) ≤ room records → Listed L tree output r left → Cored L tree work records entries output r w l left
-    unfolding late
-    listed_core left h q =
-        let number : core_number L tree work records entries output ≡ late_number L tree output = number-late ∙ rw (le-ltb (room records) (length (functions_of gate tree)) h) in
-        subst (λ m. CoredAt L tree work records entries output m r w l left) (sym number) (listed_at (ltb (length output) (length (report_of gate L tree))) refl left q)
-
--- ---- the table
-
+-- the table, as it is stored and as the rules tell it
 map-told : (es : List rules.FileSum) → map told (map stored es) ≡ es
 map-told [] = refl
 map-told (e ∷ es) = ap (λ ds. e ∷ ds) (map-told es)
@@ -267,26 +135,136 @@ answered zero written functions = refl
 answered (suc n) written functions = refl
 
 module _ (L : Limits) (tree work records : List ℕ) (table : List FileSum) (output : List ℕ) where
-  -- the number depends on the table's length alone
-  same_number : core_number L tree work records (length table) output ≡ report_number gate L tree work records (map told table) output
-  unfolding report_number
-  same_number = rw (length-replicate (length table) no_sum, length-map table told)
+  -- what is answered and left at a number
+  record ReportsAt (n : ℕ) (r : Answer) (work' records' : List ℕ) (left : List FileSum) (output' : List ℕ) : Type 0 where
+    number_is : r.number ≡ n
+    written_is : r.written ≡ (answer_at n (length (report_of gate L tree)) (length (functions_of gate tree))).written
+    functions-is : r.functions ≡ (answer_at n (length (report_of gate L tree)) (length (functions_of gate tree))).functions
+    work-is : work' ≡ work_after gate n tree work
+    records_is : records' ≡ records_after gate n tree records
+    sums-is : map told left ≡ sums_after gate n tree (map told table)
+    output-is : output' ≡ output_after n (report_of gate L tree) output
 
-  pub core_reports : (r : Core) (w l o : List ℕ) (left : List FileSum) → Cored L tree work records (length table) output r w l o → left ≡ overwritten (first_entries r.totals.of r.files) table
-      → Reports (report_told r.answer) (report_call gate L tree work records (map told table) output) w l left o
+  abbrev number : ℕ
+  number = report_number gate L tree work records (map told table) output
+
+  reports_at : (n : ℕ) (r : Answer) (w l : List ℕ) (left : List FileSum) (o : List ℕ) → number ≡ n → ReportsAt n r w l left o → Reports r (report_call gate L tree work records (map told table) output) w l left o
   unfolding report_call
-  core_reports r w l o left c e =
-      let n = report_number gate L tree work records (map told table) output in
-      let d = subst (λ m. CoredAt L tree work records (length table) output m r w l o) same_number c in
+  reports_at n r w l left o e q =
+      let d = subst (λ m. ReportsAt m r w l left o) (sym e) q in
       record {
-        number_is = d.number_is ∙ sym (answered n (length (report_of gate L tree)) (length (functions_of gate tree)));
+        number_is = d.number_is ∙ sym (answered number (length (report_of gate L tree)) (length (functions_of gate tree)));
         written_is = d.written_is;
         functions-is = d.functions-is;
         work-is = d.work-is;
         records_is = d.records_is;
-        sums-is = ap (map told) (e ∙ ap (λ es. overwritten es table) d.filled_is) ∙ told-overwritten (sums_at n tree) table ∙ sums-after n tree (map told table);
+        sums-is = d.sums-is;
         output-is = d.output-is;
       }
+
+  unfoldable late : ℕ
+  late = 8 when ltb (room records) (length (functions_of gate tree)) or_else late_number L tree output
+
+  number-is-early : number ≡ early_number tree (length work) (length table) or_else late
+  unfolding report_number early_number late gate
+  number-is-early =
+      let five = 5 when ltb (length work) (length tree) in
+      let six = 6 when ltb (length table) (file_count tree) in
+      ap (λ b. tree_refusal tree or_else (five or_else (6 when b or_else late))) (ap₂ ltb (length-map table told) (files-count tree))
+      ∙ sym (or_else_lem (tree_refusal tree) (five or_else six) late ∙ ap (λ n. tree_refusal tree or_else n) (or_else_lem five six late))
+
+  -- where no sums are written the table stays
+  stays_table : (n : ℕ) → (eqb n 0 || eqb n 9) ≡ false → map told table ≡ sums_after gate n tree (map told table)
+  stays_table n e = sym (ap (λ b. overwritten (if b then sums_of gate tree otherwise []) (map told table)) e) ∙ sums-after n tree (map told table)
+
+  -- a refusal that leaves every buffer and the table
+  stay_with : (r : Answer) (m : ℕ) → is_scanned (suc m) ≡ false → (eqb (suc m) 0 || eqb (suc m) 9) ≡ false
+      → (r.number ≡ suc m) × (r.written ≡ 0) × (r.functions ≡ 0) → ReportsAt (suc m) r work records table output
+  unfolding work_after records_after
+  stay_with r m a b q =
+      record {
+        number_is = q.0;
+        written_is = q.1;
+        functions-is = q.2;
+        work-is = rw a;
+        records_is = rw a;
+        sums-is = stays_table (suc m) b;
+        output-is = refl;
+      }
+
+  stays : (r : Answer) (n : ℕ) → 1 ≤ n → n ≤ 6 → (r.number ≡ n) × (r.written ≡ 0) × (r.functions ≡ 0) → ReportsAt n r work records table output
+  stays r zero h k q = absurd (omega arith)
+  stays r (suc zero) h k q = stay_with r 0 refl refl q
+  stays r (suc (suc zero)) h k q = stay_with r 1 refl refl q
+  stays r (suc (suc (suc zero))) h k q = stay_with r 2 refl refl q
+  stays r (suc (suc (suc (suc zero)))) h k q = stay_with r 3 refl refl q
+  stays r (suc (suc (suc (suc (suc zero))))) h k q = stay_with r 4 refl refl q
+  stays r (suc (suc (suc (suc (suc (suc zero)))))) h k q = stay_with r 5 refl refl q
+  stays r (suc (suc (suc (suc (suc (suc (suc n))))))) h k q = absurd (omega arith)
+
+  pub refused_reports : (r : Answer) (n : ℕ) → n ≡ early_number tree (length work) (length table) → 1 ≤ n → (r.number ≡ n) × (r.written ≡ 0) × (r.functions ≡ 0)
+      → Reports r (report_call gate L tree work records (map told table) output) work records table output
+  refused_reports r n e h q =
+      reports_at n r work records table output (number-is-early ∙ ap (λ m. m or_else late) (sym e) ∙ stop n h)
+      (stays r n h (omega (arith, e, early-most tree (length work) (length table))) q)
+    where
+      stop : (m : ℕ) → 1 ≤ m → m or_else late ≡ m
+      stop zero h = absurd (omega arith)
+      stop (suc m) h = refl
+
+  -- none of them applies, and the tree is scanned
+  module _ (e : early_number tree (length work) (length table) ≡ 0) (w l : List ℕ) (w-is : w ≡ blanked_work tree work records) (l-is : l ≡ filled tree work records) where
+    number-late : number ≡ late
+    number-late = number-is-early ∙ ap (λ m. m or_else late) e
+
+    many-at : (r : Answer) → (r.number ≡ 8) × (r.written ≡ 0) × (r.functions ≡ 0) → ReportsAt 8 r w l table output
+    unfolding work_after records_after gate
+    many-at r q =
+        record {
+          number_is = q.0;
+          written_is = q.1;
+          functions-is = q.2;
+          work-is = w-is;
+          records_is = l-is;
+          sums-is = stays_table 8 refl;
+          output-is = refl;
+        }
+
+    pub many_reports : (r : Answer) → room records < length (functions_of gate tree) → (r.number ≡ 8) × (r.written ≡ 0) × (r.functions ≡ 0)
+        → Reports r (report_call gate L tree work records (map told table) output) w l table output
+    unfolding late
+    many_reports r h q =
+        let here : number ≡ 8 = number-late ∙ rw (lt-ltb (room records) (length (functions_of gate tree)) h) in
+        reports_at 8 r w l table output here (many-at r q)
+
+    -- 0 and 9 are answered after the scan, and the table is filled
+    module _ (r : Result ReportCounts Refusal) (left : List FileSum) (t : left ≡ overwritten (map stored (sums_of gate tree)) table) (o : List ℕ) (q : Listed L tree output r o) where
+      listed_with : (b : Bool) → ltb (length output) (length (report_of gate L tree)) ≡ b
+          → w ≡ work_after gate (9 when b) tree work → l ≡ records_after gate (9 when b) tree records → sums_at (9 when b) tree ≡ sums_of gate tree
+          → ReportsAt (9 when b) (report_told r) w l left o
+      listed_with b d x y z =
+          record {
+            number_is = q.number_is ∙ ap (λ t. 9 when t) d;
+            written_is = q.written_is ∙ ap (λ t. (answer_at (9 when t) (length (report_of gate L tree)) (length (functions_of gate tree))).written) d;
+            functions-is = q.functions-is ∙ ap (λ t. (answer_at (9 when t) (length (report_of gate L tree)) (length (functions_of gate tree))).functions) d;
+            work-is = x;
+            records_is = y;
+            sums-is =
+                ap (map told) t ∙ told-overwritten (sums_of gate tree) table ∙ ap (λ es. overwritten es (map told table)) (sym z)
+                ∙ sums-after (9 when b) tree (map told table);
+            output-is = q.output-is ∙ ap (λ t. output_after (9 when t) (report_of gate L tree) output) d;
+          }
+
+      listed_at : (b : Bool) → ltb (length output) (length (report_of gate L tree)) ≡ b → ReportsAt (9 when b) (report_told r) w l left o
+      unfolding work_after records_after gate
+      listed_at true d = listed_with true d w-is l-is refl
+      listed_at false d = listed_with false d w-is l-is refl
+
+      pub listed_reports : length (functions_of gate tree) ≤ room records → Reports (report_told r) (report_call gate L tree work records (map told table) output) w l left o
+      unfolding late
+      listed_reports h =
+          let here : number ≡ late_number L tree output = number-late ∙ rw (le-ltb (room records) (length (functions_of gate tree)) h) in
+          reports_at (late_number L tree output) (report_told r) w l left o here (listed_at (ltb (length output) (length (report_of gate L tree))) refl)
 
 -- what a report with a table of its own answers and leaves
 pub record ReportsAlone (r : Answer) (c : Reported) (work records output : List ℕ) : Type 0 where

@@ -22,24 +22,9 @@ use Rattle.report_rows.specs.Texts.{head, head-length, head_length}
 abbrev pub files_line : List ℕ
 files_line = ascii "\nheaviest files by total cyclomatic complexity\n"
 
--- the rows of the files, and the line before them
-abbrev pub last_part : List ℕ → List ℕ
-last_part tree = joined (files_line ∷ weight_rows (heaviest_files tree) ∷ [])
-
-pub last-length : (tree : List ℕ) → length (last_part tree) ≡ 47 + length (weight_rows (heaviest_files tree))
-last-length tree = joined_length (files_line ∷ weight_rows (heaviest_files tree) ∷ []) ∙ (omega arith)
-
 module _ (L : Limits) (tree : List ℕ) where
-  -- the first lines and the rows of the functions
-  abbrev pub first_part : ℕ → Counts → List ℕ
-  first_part n c = joined (head n c.branches c.over ∷ report_rows (reported L (functions_of gate tree)) ∷ [])
-
-  pub first-length : (n : ℕ) (c : Counts) → Counted L (functions_of gate tree) c → length (first_part n c) ≡ head_length n c.branches c.over + c.bytes
-  first-length n c k =
-      joined_length (head n c.branches c.over ∷ report_rows (reported L (functions_of gate tree)) ∷ [])
-      ∙ (omega (arith, head-length n c.branches c.over, k.bytes_is))
-
-  abbrev parts : ℕ → ℕ → ℕ → List (List ℕ)
+  -- its parts, one behind the other
+  abbrev pub parts : ℕ → ℕ → ℕ → List (List ℕ)
   parts count branches over = head count branches over ∷ report_rows (reported L (functions_of gate tree)) ∷ files_line ∷ weight_rows (heaviest_files tree) ∷ []
 
   regrouped : (a b c d e f rows line files : List ℕ)
@@ -54,7 +39,7 @@ module _ (L : Limits) (tree : List ℕ) where
       (decimal (length (over_limit L fs))) (ascii "\n\ncyclo lines nest params  where\n") (report_rows (reported L fs)) files_line (weight_rows (heaviest_files tree))
 
   module _ (n : ℕ) (c : Counts) (e : n ≡ length (functions_of gate tree)) (k : Counted L (functions_of gate tree) c) where
-    in_parts : report_of gate L tree ≡ joined (parts n c.branches c.over)
+    pub in_parts : report_of gate L tree ≡ joined (parts n c.branches c.over)
     in_parts =
         whole
         ∙ ap (λ m. joined (parts m (total (λ f. f.cyclomatic) (functions_of gate tree)) (length (over_limit L (functions_of gate tree))))) (sym e)
@@ -65,12 +50,6 @@ module _ (L : Limits) (tree : List ℕ) where
         ap length in_parts
         ∙ joined_length (parts n c.branches c.over)
         ∙ (omega (arith, head-length n c.branches c.over, k.bytes_is))
-
-    pub text-is : report_of gate L tree ≡ joined (first_part n c ∷ last_part tree ∷ [])
-    text-is = in_parts ∙ halves (head n c.branches c.over) (report_rows (reported L (functions_of gate tree))) files_line (weight_rows (heaviest_files tree))
-      where
-        halves : (a b d e : List ℕ) → joined (a ∷ b ∷ d ∷ e ∷ []) ≡ joined (joined (a ∷ b ∷ []) ∷ joined (d ∷ e ∷ []) ∷ [])
-        halves a b d e = simp (append_assoc, append-nil)
 
 -- where the records stand the tree is accepted, and its report is short
 accepted : (tree lent : List ℕ) → Stand tree lent → Accepted gate tree

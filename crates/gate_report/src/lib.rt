@@ -1,26 +1,25 @@
 // The report: how many functions a tree has, their mean, the rows of those over the limits, the ten heaviest files, and a table of sums.
 #![tactic(auto)]
 
-ghost use Rattle.std.specs.Prelude.{◌≡◌, List, map, ℕ, ◌+◌, ◌≤◌, length};
-ghost use Rattle.text_rules.specs.Bytes.{overwritten, put_at};
+ghost use Rattle.std.specs.Prelude.{◌≡◌, map, ◌+◌, ◌≤◌, length};
 ghost use Rattle.gate_rules.specs.Functions.{gate_limits};
 ghost use Rattle.gate_rules.specs.Gate.{gate};
 ghost use Rattle.gate_rules.specs.Report.{weight_rows};
 ghost use Rattle.gate_rules.specs.ReportCall.{report_call, report_of};
 ghost use Rattle.gate_rules.specs.Scan.{functions_of};
 ghost use Rattle.answers.specs.Numbers.{refusal_number};
-ghost use Rattle.functions.specs.Shown.{Stand, limits_of};
-ghost use Rattle.report_files.specs.Files.{Heavy, heaviest_files};
-ghost use Rattle.report_files.specs.Weights.{Known};
+ghost use Rattle.functions.specs.Shown.{limits_of};
+ghost use Rattle.listing.specs.Writes.{Room, Writes};
+ghost use Rattle.report_files.specs.Files.{heaviest_files};
 ghost use Rattle.report_functions.specs.Counting.{Counted};
 ghost use Rattle.report_rows.specs.Texts.{head_length};
 ghost use Rattle.gate_report.specs.Listed.{Listed, report_told};
-ghost use Rattle.gate_report.specs.Reports.{Cored, Reports, ReportsAlone, any_table, early_number};
+ghost use Rattle.gate_report.specs.Reports.{Reports, ReportsAlone, any_table, early_number};
 ghost use Rattle.sums.specs.Sums.{told};
-ghost use Rattle.gate_report.specs.Text.{first_part, last_part};
 
 use answers::Refusal;
-use functions::Limits;
+use functions::{Functions, Limits};
+use listing::Writer;
 use report_files::Heaviest;
 use report_functions::Counts;
 use sums::{FileSum, Totals};
@@ -33,25 +32,6 @@ const FILES_LINE: usize = 47;
 pub struct ReportCounts {
     pub written: u32,
     pub functions: u32,
-}
-
-// What is answered, and how many entries of the lent table are to be filled, with their sums: with 9 they are, and with no other refusal.
-#[derive(Drop)]
-pub struct Core {
-    pub answer: Result<ReportCounts, Refusal>,
-    pub files: u32,
-    pub totals: Totals,
-}
-
-// A refusal that leaves the table.
-fn stopped(refusal: Refusal) -> Core
-    ensures { (result.answer ≡ Err refusal) × (result.files ≡ 0) }
-{
-    Core {
-        answer: Err(refusal),
-        files: 0,
-        totals: Totals { of: [0u32; 1024] },
-    }
 }
 
 // The first of the refusals 1 to 6 that applies.
@@ -70,129 +50,58 @@ fn early(tree: &[u8], work: usize, entries: usize) -> Result<(), Refusal>
 }
 
 // The bytes of the report.
-fn report_length(tree: &[u8], of: &[u32], n: u32, counts: Counts, heaviest: Heaviest) -> usize
-    requires { Known tree.now of.now
-        × Heavy tree.now heaviest.count heaviest.files
-        × (counts.branches ≤ 16777216)
-        × (counts.bytes ≤ 70368744177664) }
-    ensures { result ≡ head_length n counts.branches counts.over + counts.bytes + 47 + length (weight_rows (heaviest_files tree.now)) }
+fn report_length(n: u32, counts: Counts, heaviest: &Heaviest<'_>) -> usize
+    requires { (counts.branches ≤ 16777216) × (counts.bytes ≤ 70368744177664) }
+    ensures { result ≡ head_length n counts.branches counts.over + counts.bytes + 47 + length (weight_rows heaviest.now) }
 {
     let head = report_rows::head_length(n, counts.branches, counts.over);
-    head + counts.bytes + FILES_LINE + report_files::heaviest_length(tree, of, heaviest)
+    head + counts.bytes + FILES_LINE + heaviest.rows_length()
 }
 
-// The first lines and the rows of the functions.
-fn put_functions(
+// The report: the first lines and the rows of the functions, and behind them the rows of the files.
+fn write_report(
+    w: &mut Writer<'_>,
     limits: Limits,
-    tree: &[u8],
-    lent: &[u8],
-    n: usize,
+    functions: Functions,
     counts: Counts,
-    out: &mut [u8],
-) -> usize
-    requires { Stand tree.now lent.now
-        × (n ≡ length (functions_of gate tree.now))
-        × Counted (limits_of limits) (functions_of gate tree.now) counts
-        × (head_length n counts.branches counts.over + counts.bytes ≤ length out.old) }
-    ensures { (result ≡ 0 + (head_length n counts.branches counts.over + counts.bytes))
-        × (out.new ≡ put_at 0 (first_part (limits_of limits) tree.now n counts) out.old) }
+    heaviest: &Heaviest<'_>,
+)
+    requires { Counted (limits_of limits) (functions_of gate functions.tree.now) counts
+        × (heaviest.now ≡ heaviest_files functions.tree.now)
+        × Room (report_of gate (limits_of limits) functions.tree.now) w.old }
+    ensures { Writes (report_of gate (limits_of limits) functions.entry.tree.now) w.old w.new }
 {
-    let rows = report_rows::put_head(out, 0, n as u32, counts.branches, counts.over);
-    report_functions::put_rows(tree, lent, n, limits, counts.over as usize, out, rows)
+    report_rows::write_head(w, functions.count as u32, counts.branches, counts.over);
+    report_functions::write_rows(w, functions, limits);
+    w.text(b"\nheaviest files by total cyclomatic complexity\n");
+    heaviest.write_rows(w);
 }
 
-// The rows of the files, and the line before them.
-fn put_files(tree: &[u8], of: &[u32], heaviest: Heaviest, out: &mut [u8], at: usize) -> usize
-    requires { Known tree.now of.now
-        × Heavy tree.now heaviest.count heaviest.files
-        × (at + (47 + length (weight_rows (heaviest_files tree.now))) ≤ length out.old) }
-    ensures { (result ≡ at + (47 + length (weight_rows (heaviest_files tree.now))))
-        × (out.new ≡ put_at at (last_part tree.now) out.old) }
-{
-    let files = listing::put_text(
-        out,
-        at,
-        b"\nheaviest files by total cyclomatic complexity\n",
-    );
-    report_files::put_heaviest(tree, of, heaviest, out, files)
-}
-
-// The report, from the first byte on.
-fn put_report(
+// The report of functions, with the sums of their files. Its length is known before anything is written.
+fn listed(
     limits: Limits,
-    tree: &[u8],
-    lent: &[u8],
-    of: &[u32],
-    n: usize,
-    counts: Counts,
-    heaviest: Heaviest,
-    out: &mut [u8],
-) -> usize
-    requires { Stand tree.now lent.now
-        × Known tree.now of.now
-        × (n ≡ length (functions_of gate tree.now))
-        × Counted (limits_of limits) (functions_of gate tree.now) counts
-        × Heavy tree.now heaviest.count heaviest.files
-        × (length (report_of gate (limits_of limits) tree.now) ≤ length out.old) }
-    ensures { (result ≡ length (report_of gate (limits_of limits) tree.now))
-        × (out.new ≡ overwritten (report_of gate (limits_of limits) tree.now) out.old) }
-{
-    let line = put_functions(limits, tree, lent, n, counts, out);
-    put_files(tree, of, heaviest, out, line)
-}
-
-// The report of a tree whose records stand in `lent`. Its length is known before anything is written.
-fn listed(limits: Limits, tree: &[u8], lent: &[u8], n: usize, output: &mut [u8]) -> Core
-    requires { Stand tree.now lent.now × (n ≡ length (functions_of gate tree.now)) }
-    ensures { Listed (limits_of limits) tree.now output.old result output.new }
-{
-    let files = layout::file_count(tree);
-    let totals = sums::file_totals(tree, lent, n);
-    let of = totals.of;
-    let heaviest = report_files::heaviest_files(tree, &of, files);
-    let counts = report_functions::count(tree, lent, n, limits);
-    let length = report_length(tree, &of, n as u32, counts, heaviest);
-    if output.len() < length {
-        return Core {
-            answer: Err(Refusal::Output),
-            files: files as u32,
-            totals,
-        };
-    }
-    let written = put_report(limits, tree, lent, &of, n, counts, heaviest, output);
-    Core {
-        answer: Ok(ReportCounts {
-            written: written as u32,
-            functions: n as u32,
-        }),
-        files: files as u32,
-        totals,
-    }
-}
-
-// All but the table, of which only the number of entries is known: the refusals 1 to 6, 8 and 9, and the report.
-pub fn report_core(
-    limits: Limits,
-    tree: &[u8],
-    work: &mut [u8],
-    lent: &mut [u8],
-    entries: usize,
+    functions: Functions,
+    totals: &Totals<'_>,
     output: &mut [u8],
-) -> Core
-    ensures { Cored (limits_of limits) tree.now work.old lent.old entries output.old result
-        work.new lent.new output.new }
+) -> Result<ReportCounts, Refusal>
+    requires { totals.now.tree.now ≡ functions.tree.now }
+    ensures { Listed (limits_of limits) functions.entry.tree.now output.old result output.new }
 {
-    if let Err(refusal) = early(tree, work.len(), entries) {
-        return stopped(refusal);
+    let heaviest = Heaviest::new(totals);
+    let counts = report_functions::count(functions, limits);
+    let n = functions.count as u32;
+    if output.len() < report_length(n, counts, &heaviest) {
+        return Err(Refusal::Output);
     }
-    let n = gate_scan::scanned(tree, work, lent);
-    if gate_scan::room(lent.len()) < n {
-        return stopped(Refusal::Functions);
-    }
-    listed(limits, tree, lent, n, output)
+    let mut w = Writer { out: output, at: 0 };
+    write_report(&mut w, limits, functions, counts, &heaviest);
+    Ok(ReportCounts {
+        written: w.at as u32,
+        functions: n,
+    })
 }
 
-// The report by other limits. The table is lent: one entry for each file is filled on success and with 9.
+// The report by other limits: the refusals 1 to 6, 8 and 9. The table is lent: one entry for each file is filled on success and with 9.
 pub fn report_with(
     limits: Limits,
     tree: &[u8],
@@ -204,9 +113,19 @@ pub fn report_with(
     ensures { Reports (report_told result) (report_call gate (limits_of limits) tree.now work.old lent.old (map told table.old) output.old)
         work.new lent.new table.new output.new }
 {
-    let r = report_core(limits, tree, work, lent, table.len(), output);
-    sums::fill(table, r.totals, r.files);
-    r.answer
+    early(tree, work.len(), table.len())?;
+    let count = gate_scan::scanned(tree, work, lent);
+    if gate_scan::room(lent.len()) < count {
+        return Err(Refusal::Functions);
+    }
+    let functions = Functions {
+        tree,
+        records: lent,
+        count,
+    };
+    let totals = Totals::new(functions);
+    totals.fill(table);
+    listed(limits, functions, &totals, output)
 }
 
 // The call report: the refusals 1 to 6, 8 and 9; the report by the gate's limits, and the sums of the files.

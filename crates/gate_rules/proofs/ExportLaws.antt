@@ -15,6 +15,7 @@ use Rattle.gate_rules.specs.Functions.{Limits}
 use Rattle.gate_rules.specs.Gate.{gate}
 use Rattle.gate_rules.specs.Left.{ExportedLeft}
 use Rattle.gate_rules.proofs.LeftLaws.{exported_check-left, exported_report-left, exported_scan_left, exported_update-left, output-leaves}
+use Rattle.gate_rules.proofs.RefusalLaws.{or_else_twice}
 use Rattle.gate_rules.specs.Report.{FileSum, empty_sums}
 use Rattle.gate_rules.specs.ReportCall.{report_call, report_number, report_of}
 use Rattle.gate_rules.specs.Scan.{functions_of}
@@ -44,13 +45,9 @@ pub record TooFew (tree work records' output counts : List ℕ) (e : Exported) :
 -- ROOM FOR THE COUNTS
 
 -- the number is the call's own
-twice : (m n : ℕ) → (m or_else (m or_else n)) ≡ (m or_else n)
-twice zero n = refl
-twice (suc m) n = refl
-
 own-number : (width : ℕ) (tree counts : List ℕ) (rest : ℕ) → width ≤ length counts → export_number gate width tree counts (tree_refusal tree or_else rest) ≡ (tree_refusal tree or_else rest)
 unfolding export_number gate
-own-number width tree counts rest h = rw (le-ltb (length counts) width h) (twice (tree_refusal tree) rest)
+own-number width tree counts rest h = rw (le-ltb (length counts) width h) (or_else_twice (tree_refusal tree) rest)
 
 -- counts, written or not
 beyond-put : (width n : ℕ) (bytes counts : List ℕ) → length bytes ≡ width → drop width (output_after n bytes counts) ≡ drop width counts

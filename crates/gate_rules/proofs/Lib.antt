@@ -7,6 +7,7 @@ pub mod ConditionLaws
 pub mod TableLaws
 pub mod TreeLaws
 pub mod LeftLaws
+pub mod RefusalLaws
 pub mod ExportLaws
 pub mod ProgramLaws
 -- Laws of trees, records and baselines

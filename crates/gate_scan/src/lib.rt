@@ -10,11 +10,13 @@ ghost use Rattle.gate_rules.specs.Gate.{gate};
 ghost use Rattle.gate_rules.specs.Scan.{functions_of};
 ghost use Rattle.gate_rules.specs.Tree.{is_laid_out, sources, tree_refusal};
 ghost use Rattle.records.specs.Record.{numbers};
+ghost use Rattle.signatures.specs.Signatures.{Rooms};
 ghost use Rattle.gate_scan.specs.Scans.{Scans, blanked_work, filled, scan_answer};
 ghost use Rattle.gate_scan.specs.Told.{Small, TextsIn, records_for, told};
 
 use answers::Refusal;
 use records::Record;
+use signatures::Notes;
 use source::Found;
 
 // The most functions of a tree.
@@ -36,12 +38,7 @@ fn blank_texts(tree: &[u8], work: &mut [u8])
 pub fn room(bytes: usize) -> usize
     ensures { result ≡ min 8192 (bytes / 32) }
 {
-    let whole = bytes / records::RECORD_WIDTH;
-    if whole < MAX_FUNCTIONS {
-        whole
-    } else {
-        MAX_FUNCTIONS
-    }
+    MAX_FUNCTIONS.min(bytes / records::RECORD_WIDTH)
 }
 
 // The record with a number, at its place, if there is room for it.
@@ -70,36 +67,25 @@ fn record_of(number: usize, place: usize, f: Found) -> Record
     }
 }
 
-// The records of a blanked text's functions, the first with the number `done`; answers the number behind the last. The arrays are for what is
-// noted of the text, for the sums of its chunks and for the searches that are kept, and hold nothing of the text before.
+// The records of a blanked text's functions, the first with the number `done`; answers the number behind the last. The notes hold nothing of the text
+// before.
 fn scan_text(
     s: &[u8],
     number: usize,
     place: usize,
     lent: &mut [u8],
     done: usize,
-    noted: &mut [u32; 4099],
-    sums: &mut [u16; 36865],
-    kept: &mut [usize; 259],
+    notes: &mut Notes,
 ) -> usize
-    requires { (number < 1024)
-        × (place + length s.now ≤ 16777216)
-        × (done ≤ 17179869184)
-        × (length noted.old ≡ 4099)
-        × (length sums.old ≡ 36865)
-        × (length kept.old ≡ 259) }
+    requires { (number < 1024) × (place + length s.now ≤ 16777216) × (done ≤ 17179869184) × Rooms notes.old }
     ensures { (result ≡ done + length (functions s.now))
         × (lent.new ≡ put_records done (records_for number place (functions s.now)) lent.old)
-        × (length noted.new ≡ 4099)
-        × (length sums.new ≡ 36865)
-        × (length kept.new ≡ 259) }
+        × Rooms notes.new }
 {
-    windows::clear(noted);
-    chunks::clear(sums);
-    memo::forget(kept, 0);
+    notes.clear();
     let mut cursor = source::start(s);
     let mut n = done;
-    while let Some(f) = cursor.next(noted, sums, kept) {
+    while let Some(f) = cursor.next(notes) {
         put_numbered(lent, n, record_of(number, place, f));
         n += 1;
     }
@@ -113,23 +99,12 @@ fn scan_texts(tree: &[u8], work: &[u8], lent: &mut [u8]) -> usize
         × (lent.new ≡ put_records 0 (map record_bytes (records tree.now)) lent.old) }
 {
     let n = layout::file_count(tree);
-    let mut noted = [0u32; 4099];
-    let mut sums = [0u16; 36865];
-    let mut kept = [0usize; 259];
+    let mut notes = Notes::new();
     let mut done = 0;
     for file in 0..n {
         let text = layout::text_span(tree, file);
         let from = text.start;
-        done = scan_text(
-            &work[text],
-            file,
-            from,
-            lent,
-            done,
-            &mut noted,
-            &mut sums,
-            &mut kept,
-        );
+        done = scan_text(&work[text], file, from, lent, done, &mut notes);
     }
     done
 }

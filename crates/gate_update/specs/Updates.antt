@@ -13,6 +13,7 @@ use Rattle.gate_rules.specs.Calls.{UpdateAnswer, Updated, output_after, records_
 use Rattle.gate_rules.specs.Functions.{Limits}
 use Rattle.gate_rules.specs.Gate.{gate}
 use Rattle.gate_rules.proofs.LeftLaws.{update-keeps}
+use Rattle.gate_rules.proofs.RefusalLaws.{or_else_lem}
 use Rattle.gate_rules.specs.Scan.{functions_of}
 use Rattle.gate_rules.proofs.SettlesProof.{updated_enough}
 use Rattle.gate_rules.proofs.TableLaws.{answer-number, updated_number}
@@ -60,10 +61,6 @@ written-inside r L tree work records' output w l o u =
       (update-keeps L tree work records' output).same-output,
       written-most L tree work records' output (update_number gate L tree work records' output) refl,
     )
-
-or_else_lem : (a b c : ℕ) → (a or_else b) or_else c ≡ a or_else (b or_else c)
-or_else_lem zero b c = refl
-or_else_lem (suc a) b c = refl
 
 module _ (L : Limits) (tree work records' output : List ℕ) where
   -- update's number is the scan's, and where that is 0 the output may be too short

@@ -9,7 +9,7 @@ ghost use Rattle.functions.specs.Shown.{limits_of};
 ghost use Rattle.gate_update.specs.Updates.{Updates, update_told};
 
 use answers::Refusal;
-use functions::Limits;
+use functions::{Functions, Limits};
 
 // The bytes of the header.
 const HEADER_LENGTH: usize = 396;
@@ -33,16 +33,20 @@ pub fn update_with(
     ensures { Updates (update_told result) (update_call gate (limits_of limits) tree.now work.old lent.old output.old)
         work.new lent.new output.new }
 {
-    let functions = gate_scan::scan(tree, work, lent)?;
-    let n = functions as usize;
-    let size = update_rows::rows_size(tree, lent, n, limits);
+    let count = gate_scan::scan(tree, work, lent)?;
+    let functions = Functions {
+        tree,
+        records: lent,
+        count: count as usize,
+    };
+    let size = update_rows::rows_size(functions, limits);
     if output.len() < HEADER_LENGTH + size.bytes {
         return Err(Refusal::Output);
     }
-    let written = update_rows::put_baseline(tree, lent, n, limits, size.count, output);
+    let written = update_rows::put_baseline(functions, limits, output);
     Ok(UpdateCounts {
         written: written as u32,
-        functions,
+        functions: count,
         recorded: size.count as u32,
     })
 }

@@ -1,11 +1,11 @@
 -- Stale keys of a baseline whose keys never fall: they stand there in the order in which they are listed, each of them once or more.
-use Rattle.std.specs.Prelude.{ℕ, ◌≤◌, ◌≡◌, ◌⊎◌, true, false, ◌||◌}
+use Rattle.std.specs.Prelude.{ℕ, Option, Some, None, ◌≤◌, ◌≡◌, ◌⊎◌, true, false, ◌||◌}
 use Rattle.std.proofs.Math.Path.{refl, subst}
 use Rattle.std.proofs.Common.{ap, sym, ◌∙◌}
 use Rattle.std.proofs.Math.Logic.{inl, inr}
 use mathlib.Core.List.Memᴰ
 use mathlib.Core.List.{List, [], ◌∷◌, ◌++◌, map}
-use Rattle.std.proofs.Math.Option.{Option, none, some}
+use Rattle.std.proofs.Math.Option.{Option as MathOption, none, some}
 use native.Mathlib.Omega.{arith}
 use Rattle.text_rules.specs.ByteOrder.{before-asym, before_orders, before-total}
 use Rattle.text_rules.specs.Bytes.{All, ◌∈◌, among, before, if◌then◌otherwise◌, same, total}
@@ -19,55 +19,54 @@ use Rattle.gate_rules.specs.Scan.{functions_of}
 use Rattle.gate_rules.proofs.StaleLaws.{stale-each, stale-only, stale-rising}
 use Rattle.baseline.specs.Ordered.{Unfalling, fallen, one_key}
 use Rattle.baseline.specs.Reads.{key_in}
-use Rattle.baseline.specs.declared.Key.{Key}
-use Rattle.baseline.specs.declared.Key.TheVariants.{Bytes, Nothing}
+use Rattle.baseline.specs.declared.Span.{Span}
 use Rattle.key_lines.specs.Meets.{repeats}
 use Rattle.in_order.specs.StaleKeys.{behind}
 
 -- what a key adds to the stale keys: itself, unless it is the last one or a function has it
-abbrev pub added : (live : List (List ℕ)) → (last : Option (List ℕ)) → List ℕ → List (List ℕ)
+abbrev pub added : (live : List (List ℕ)) → (last : MathOption (List ℕ)) → List ℕ → List (List ℕ)
 added live last k = if repeats last k || among k live then [] otherwise k ∷ []
 
 -- the keys that are stale, each once where equal keys stand together
-unfoldable pub in_order : (live : List (List ℕ)) → (last : Option (List ℕ)) → List (List ℕ) → List (List ℕ)
+unfoldable pub in_order : (live : List (List ℕ)) → (last : MathOption (List ℕ)) → List (List ℕ) → List (List ℕ)
 in_order live last [] = []
 in_order live last (k ∷ ks) = added live last k ++ in_order live (some k) ks
 
 -- what a line adds
-abbrev pub added_by : (live : List (List ℕ)) → (last : Option (List ℕ)) → Option (List ℕ) → List (List ℕ)
+abbrev pub added_by : (live : List (List ℕ)) → (last : MathOption (List ℕ)) → MathOption (List ℕ) → List (List ℕ)
 added_by live last none = []
 added_by live last (some k) = added live last k
 
 -- what a line of a baseline adds to the stale keys of a tree, keys told by their bounds
-abbrev pub added_in : (tree lines : List ℕ) → (last here : Key) → List (List ℕ)
+abbrev pub added_in : (tree lines : List ℕ) → (last here : Option Span) → List (List ℕ)
 added_in tree lines last here = added_by (map key (functions_of gate tree)) (key_in lines last) (key_in lines here)
 
 -- the last key, after a line more
-abbrev pub latest : Key → Key → Key
-latest last (Bytes from to) = Bytes from to
-latest last Nothing = last
+abbrev pub latest : Option Span → Option Span → Option Span
+latest last (Some k) = Some k
+latest last None = last
 
 -- the same by its bytes
-abbrev pub last_after : (last : Option (List ℕ)) → Option (List ℕ) → Option (List ℕ)
+abbrev pub last_after : (last : MathOption (List ℕ)) → MathOption (List ℕ) → MathOption (List ℕ)
 last_after last none = last
 last_after last (some k) = some k
 
 module _ (live : List (List ℕ)) where
   -- the key of a line, and those of the lines behind it
-  pub in_order-line : (last k : Option (List ℕ)) (ks : List (List ℕ)) → in_order live last (one_key k ++ ks) ≡ added_by live last k ++ in_order live (last_after last k) ks
+  pub in_order-line : (last k : MathOption (List ℕ)) (ks : List (List ℕ)) → in_order live last (one_key k ++ ks) ≡ added_by live last k ++ in_order live (last_after last k) ks
   unfolding in_order
   in_order-line last none ks = refl
   in_order-line last (some k) ks = refl
 
-  pub in_order-end : (last : Option (List ℕ)) → in_order live last [] ≡ []
+  pub in_order-end : (last : MathOption (List ℕ)) → in_order live last [] ≡ []
   unfolding in_order
   in_order-end last = refl
 
   -- they are not more than all keys, by any measure
-  added-most : (w : List ℕ → ℕ) (last : Option (List ℕ)) (k : List ℕ) → total w (added live last k) ≤ w k
+  added-most : (w : List ℕ → ℕ) (last : MathOption (List ℕ)) (k : List ℕ) → total w (added live last k) ≤ w k
   added-most w last k = elim (whether (repeats last k || among k live)) [ inl t ↦ rw t (omega arith) | inr t ↦ rw t (omega arith) ]
 
-  pub in_order-most : (w : List ℕ → ℕ) (last : Option (List ℕ)) (ks : List (List ℕ)) → total w (in_order live last ks) ≤ total w ks
+  pub in_order-most : (w : List ℕ → ℕ) (last : MathOption (List ℕ)) (ks : List (List ℕ)) → total w (in_order live last ks) ≤ total w ks
   unfolding in_order
   in_order-most w last [] = omega arith
   in_order-most w last (k ∷ ks) = omega (arith, total-append w (added live last k) (in_order live (some k) ks), added-most w last k, in_order-most w (some k) ks)
@@ -75,7 +74,7 @@ module _ (live : List (List ℕ)) where
 -- ---- where no key falls, these are the stale keys
 
 -- a key that does not stand before the last one is behind it where it is another
-other-behind : (last : Option (List ℕ)) (k : List ℕ) → fallen last (some k) ≡ false → repeats last k ≡ false → behind last k ≡ true
+other-behind : (last : MathOption (List ℕ)) (k : List ℕ) → fallen last (some k) ≡ false → repeats last k ≡ false → behind last k ≡ true
 other-behind none k h e = refl
 other-behind (some l) k h e =
     elim (whether (before l k)) [
@@ -84,26 +83,26 @@ other-behind (some l) k h e =
     ]
 
 -- what is behind a key is behind the last one, where the key does not stand before it
-behind-through : (last : Option (List ℕ)) (k j : List ℕ) → fallen last (some k) ≡ false → before k j ≡ true → behind last j ≡ true
+behind-through : (last : MathOption (List ℕ)) (k j : List ℕ) → fallen last (some k) ≡ false → before k j ≡ true → behind last j ≡ true
 behind-through none k j h b = refl
 behind-through (some l) k j h b = elim (before_orders.splits k l j b) [ inl d ↦ absurd (true_false (before k l) d h) | inr d ↦ d ]
 
 -- none of the keys stands before the last one
-abbrev NoneAhead : Option (List ℕ) → List (List ℕ) → Type 0
+abbrev NoneAhead : MathOption (List ℕ) → List (List ℕ) → Type 0
 NoneAhead none ks = Unit {0}
 NoneAhead (some l) ks = All (λ k. before k l ≡ false) ks
 
-ahead-first : (last : Option (List ℕ)) (k : List ℕ) (ks : List (List ℕ)) → NoneAhead last (k ∷ ks) → fallen last (some k) ≡ false
+ahead-first : (last : MathOption (List ℕ)) (k : List ℕ) (ks : List (List ℕ)) → NoneAhead last (k ∷ ks) → fallen last (some k) ≡ false
 ahead-first none k ks h = refl
 ahead-first (some l) k ks h = h.0
 
-repeated : (last : Option (List ℕ)) (k : List ℕ) → repeats last k ≡ true → last ≡ some k
+repeated : (last : MathOption (List ℕ)) (k : List ℕ) → repeats last k ≡ true → last ≡ some k
 repeated none k e = absurd (true_false false e refl)
 repeated (some l) k e = ap some (same_true l k e)
 
 module _ (live : List (List ℕ)) where
   -- they rise, from behind the last one on
-  rises : (last : Option (List ℕ)) (ks : List (List ℕ)) → NoneAhead last ks → Unfalling ks
+  rises : (last : MathOption (List ℕ)) (ks : List (List ℕ)) → NoneAhead last ks → Unfalling ks
       → All (λ k. behind last k ≡ true) (in_order live last ks) × Rising before (in_order live last ks)
   unfolding in_order
   rises last [] h u = (tt, tt)
@@ -120,7 +119,7 @@ module _ (live : List (List ℕ)) where
       ]
 
   -- each is one of the keys, and no function has it
-  only : (last : Option (List ℕ)) (ks : List (List ℕ)) → All (λ k. (k ∈ ks) × (among k live ≡ false)) (in_order live last ks)
+  only : (last : MathOption (List ℕ)) (ks : List (List ℕ)) → All (λ k. (k ∈ ks) × (among k live ≡ false)) (in_order live last ks)
   unfolding in_order
   only last [] = tt
   only last (k ∷ ks) =
@@ -131,13 +130,13 @@ module _ (live : List (List ℕ)) where
       ]
 
   -- each key that no function has is among them, or is the last one
-  first-each : (last : Option (List ℕ)) (k : List ℕ) (ks : List (List ℕ)) → among k live ≡ false → (k ∈ added live last k ++ ks) ⊎ (last ≡ some k)
+  first-each : (last : MathOption (List ℕ)) (k : List ℕ) (ks : List (List ℕ)) → among k live ≡ false → (k ∈ added live last k ++ ks) ⊎ (last ≡ some k)
   first-each last k ks d = elim (whether (repeats last k)) [ inl t ↦ inr (repeated last k t) | inr t ↦ inl (rw (t, d) (Memᴰ.head refl)) ]
 
-  rest-each : (last : Option (List ℕ)) (k : List ℕ) (ks : List (List ℕ)) {j : List ℕ} → j ∈ ks → j ∈ added live last k ++ ks
+  rest-each : (last : MathOption (List ℕ)) (k : List ℕ) (ks : List (List ℕ)) {j : List ℕ} → j ∈ ks → j ∈ added live last k ++ ks
   rest-each last k ks m = elim (whether (repeats last k || among k live)) [ inl t ↦ rw t m | inr t ↦ rw t (Memᴰ.tail m) ]
 
-  each : (last : Option (List ℕ)) (ks : List (List ℕ)) (j : List ℕ) → j ∈ ks → among j live ≡ false → (j ∈ in_order live last ks) ⊎ (last ≡ some j)
+  each : (last : MathOption (List ℕ)) (ks : List (List ℕ)) (j : List ℕ) → j ∈ ks → among j live ≡ false → (j ∈ in_order live last ks) ⊎ (last ≡ some j)
   unfolding in_order
   each last [] j m d = absurd (Memᴰ.not-nil m)
   each last (k ∷ ks) j m d =

@@ -1,5 +1,5 @@
 -- The stale keys of the lines that a pass has still to come to.
-use Rattle.std.specs.Prelude.{ℕ, ◌+◌, ◌≤◌, ◌≡◌, Bool, true, false, ◌||◌, length, drop}
+use Rattle.std.specs.Prelude.{ℕ, Option, Some, None, ◌+◌, ◌≤◌, ◌≡◌, Bool, true, false, ◌||◌, length, drop}
 use Rattle.std.proofs.Math.Path.{refl}
 use Rattle.std.proofs.Common.{ap, sym, ◌∙◌, arith}
 use mathlib.Core.List.{List, [], ◌∷◌, ◌++◌, map}
@@ -14,8 +14,7 @@ use Rattle.gate_rules.proofs.EntryLaws.{keys_fit}
 use Rattle.gate_rules.specs.Functions.{key}
 use Rattle.gate_rules.specs.Gate.{gate}
 use Rattle.gate_rules.specs.Scan.{functions_of}
-use Rattle.baseline.specs.declared.Key.{Key}
-use Rattle.baseline.specs.declared.Key.TheVariants.{Bytes, Nothing}
+use Rattle.baseline.specs.declared.Span.{Span}
 use Rattle.baseline.specs.Ordered.{Unfalling, keys-end, keys-line, keys_in}
 use Rattle.baseline.specs.Reads.{key_in, key_of_entry, line_at}
 use Rattle.key_lines.specs.Meets.{repeats}
@@ -31,18 +30,18 @@ known-last a b e = rw e
 pub known-rest : (a b : Bool) → a ≡ false → b ≡ (a || b)
 known-rest a b e = rw e
 
-module _ (tree lines : List ℕ) (last here : Key) where
-  pub adds-nothing : here ≡ Nothing → added_in tree lines last here ≡ []
+module _ (tree lines : List ℕ) (last here : Option Span) where
+  pub adds-nothing : here ≡ None → added_in tree lines last here ≡ []
   adds-nothing q = ap (added_in tree lines last) q
 
-  module _ (a b : ℕ) (q : here ≡ Bytes a b) where
+  module _ (k : Span) (q : here ≡ Some k) where
     abbrev known : Bool
-    known = repeats (key_in lines last) (part a b lines) || among (part a b lines) (map key (functions_of gate tree))
+    known = repeats (key_in lines last) (part k.from k.to lines) || among (part k.from k.to lines) (map key (functions_of gate tree))
 
     pub adds_none : known ≡ true → added_in tree lines last here ≡ []
     adds_none e = ap (added_in tree lines last) q ∙ rw e
 
-    pub adds-key : known ≡ false → added_in tree lines last here ≡ part a b lines ∷ []
+    pub adds-key : known ≡ false → added_in tree lines last here ≡ part k.from k.to lines ∷ []
     adds-key e = ap (added_in tree lines last) q ∙ rw e
 
 -- ---- line by line
@@ -52,25 +51,25 @@ module _ (tree lines : List ℕ) where
   live = map key (functions_of gate tree)
 
   -- the stale keys from a place on, behind the last key in front of it
-  abbrev pub to_come : (last : Key) (from : ℕ) → List (List ℕ)
+  abbrev pub to_come : (last : Option Span) (from : ℕ) → List (List ℕ)
   to_come last from = in_order live (key_in lines last) (keys_in (drop from lines))
 
-  after : (last here : Key) → last_after (key_in lines last) (key_in lines here) ≡ key_in lines (latest last here)
-  after last (Bytes a b) = refl
-  after last Nothing = refl
+  after : (last here : Option Span) → last_after (key_in lines last) (key_in lines here) ≡ key_in lines (latest last here)
+  after last (Some k) = refl
+  after last None = refl
 
-  pub come_line : (last here key : Key) (from end : ℕ) → end ≡ from + bytes_before 10 (drop from lines)
+  pub come_line : (last here key : Option Span) (from end : ℕ) → end ≡ from + bytes_before 10 (drop from lines)
       → key_in lines here ≡ key_of_entry (entry_of (line_at lines from end)) → key ≡ latest last here → to_come last from ≡ added_in tree lines last here ++ to_come key (end + 1)
   come_line last here key from end e q r =
       ap (in_order live (key_in lines last)) (keys-line lines from end (key_in lines here) e q)
       ∙ in_order-line live (key_in lines last) (key_in lines here) (keys_in (drop (end + 1) lines))
       ∙ ap (λ l. added_in tree lines last here ++ in_order live l (keys_in (drop (end + 1) lines))) (after last here ∙ ap (key_in lines) (sym r))
 
-  pub come_end : (last : Key) (from : ℕ) → length lines ≤ from → to_come last from ≡ []
+  pub come_end : (last : Option Span) (from : ℕ) → length lines ≤ from → to_come last from ≡ []
   come_end last from h = ap (in_order live (key_in lines last)) (keys-end lines from h) ∙ in_order-end live (key_in lines last)
 
   -- where no key falls, all are the stale keys
-  pub come_all : Unfalling (keys_in lines) → to_come Nothing 0 ≡ stale_in tree lines
+  pub come_all : Unfalling (keys_in lines) → to_come None 0 ≡ stale_in tree lines
   come_all u = in_order_lem (entries_of_lines lines) (functions_of gate tree) u
 
   -- ---- their number and their bytes are small, whether keys fall or not
@@ -84,10 +83,10 @@ module _ (tree lines : List ℕ) where
   count_most [] = omega arith
   count_most (k ∷ ks) = omega (arith, count_most ks)
 
-  pub come_small : is_utf8 lines ≡ true → (length (to_come Nothing 0) ≤ length lines) × (length (key_lines (to_come Nothing 0)) ≤ length lines)
+  pub come_small : is_utf8 lines ≡ true → (length (to_come None 0) ≤ length lines) × (length (key_lines (to_come None 0)) ≤ length lines)
   come_small u =
       let es = entries_of_lines lines in
-      let all : total (λ k. 3 + length k) (to_come Nothing 0) ≤ length lines = omega (
+      let all : total (λ k. 3 + length k) (to_come None 0) ≤ length lines = omega (
         arith,
         in_order-most live (λ k. 3 + length k) none (map entry_key es),
         total-map (λ k. 3 + length k) entry_key es,
@@ -96,4 +95,4 @@ module _ (tree lines : List ℕ) where
         ap (total (λ e. 4 + length (entry_key e))) (entries-read lines u),
         keys_fit lines,
       ) in
-      (omega (arith, count_most (to_come Nothing 0)), omega (arith, lines-total (to_come Nothing 0)))
+      (omega (arith, count_most (to_come None 0)), omega (arith, lines-total (to_come None 0)))

@@ -1,5 +1,5 @@
 -- What is known of the last key: the functions that may have a key with its path. Keys that stand next to each other mostly have one path.
-use Rattle.std.specs.Prelude.{ℕ, ◌≤◌, ◌<◌, ◌≡◌, refl, true, false, List, length}
+use Rattle.std.specs.Prelude.{ℕ, Some, None, ◌≤◌, ◌<◌, ◌≡◌, refl, true, false, List, length}
 use Rattle.std.proofs.Common.{ap, subst, sym, ◌∙◌, arith}
 use Rattle.std.proofs.Math.Option.{Option, none, some}
 use Rattle.text_rules.specs.BytesLaws.{true_false}
@@ -8,7 +8,7 @@ use Rattle.text_rules.specs.Search.{bytes_before, part}
 use Rattle.gate_rules.specs.Functions.{Fun}
 use Rattle.gate_rules.specs.Gate.{gate}
 use Rattle.gate_rules.specs.Scan.{functions_of}
-use Rattle.baseline.specs.declared.Key.TheVariants.{Bytes, Nothing}
+use Rattle.baseline.specs.declared.Span.{Span}
 use Rattle.baseline.specs.Plain.{PlainKey}
 use Rattle.baseline.specs.Reads.{KeyInside, key_in}
 use Rattle.live.specs.Live.{Only, path_of}
@@ -38,7 +38,7 @@ OnPath (some l) k = path_of k ≡ path_of l
 -- ---- what is known of the last key
 
 abbrev pub no_last : Last
-no_last = record { key = Nothing; path = 0; from = 0; to = 0; plain = false }
+no_last = record { key = None; path = 0; from = 0; to = 0; plain = false }
 
 pub knows_start : (tree lines : List ℕ) → Knows tree lines no_last
 knows_start tree lines = record { inside = tt; path-is = tt; few = omega arith; ranged = tt; plain-key = λ e. absurd (true_false false e refl) }
@@ -63,36 +63,36 @@ meets-path (some l) k n path shared p h m =
     let c = common-path l m.line (length k) (omega arith) (omega (arith, m.path-is, m.path_in)) in
     ap path_of m.begins ∙ c.1
 
-module _ (tree lines : List ℕ) (last : Last) (here : Found) (a b : ℕ) (f : Finds lines last.key here) (q : here.key ≡ Bytes a b) where
-  pub finds-inside : (a ≤ b) × (b ≤ length lines)
+module _ (tree lines : List ℕ) (last : Last) (here : Found) (k : Span) (f : Finds lines last.key here) (q : here.key ≡ Some k) where
+  pub finds-inside : (k.from ≤ k.to) × (k.to ≤ length lines)
   finds-inside = subst (KeyInside lines) q f.inside
 
-  pub finds-meets : Meets (key_in lines last.key) (part a b lines) here.path here.common
+  pub finds-meets : Meets (key_in lines last.key) (part k.from k.to lines) here.path here.common
   finds-meets = subst (λ j. MeetsKey (key_in lines last.key) (key_in lines j) here.path here.common) q f.meets
 
-  own : PathLength (some (part a b lines)) here.path
-  own = own-path (key_in lines last.key) (part a b lines) here.path here.common finds-meets
+  own : PathLength (some (part k.from k.to lines)) here.path
+  own = own-path (key_in lines last.key) (part k.from k.to lines) here.path here.common finds-meets
 
-  own-plain : here.plain ≡ true → PlainKey lines (Bytes a b) here.path
+  own-plain : here.plain ≡ true → PlainKey lines (Some k) here.path
   own-plain e = subst (λ j. PlainKey lines j here.path) q (f.plain-key e)
 
   -- a key with the path of the last one
   pub knows-next : Knows tree lines last → last.path < here.common
-      → Knows tree lines (record { key = Bytes a b; path = here.path; from = last.from; to = last.to; plain = here.plain })
-  knows-next k h =
-      let p = meets-path (key_in lines last.key) (part a b lines) last.path here.path here.common k.path-is h finds-meets in
-      let r = on_path (functions_of gate tree) (key_in lines last.key) (part a b lines) last.from last.to p k.ranged in
-      record { inside = finds-inside; path-is = own; few = k.few; ranged = r; plain-key = own-plain }
+      → Knows tree lines (record { key = Some k; path = here.path; from = last.from; to = last.to; plain = here.plain })
+  knows-next w h =
+      let p = meets-path (key_in lines last.key) (part k.from k.to lines) last.path here.path here.common w.path-is h finds-meets in
+      let r = on_path (functions_of gate tree) (key_in lines last.key) (part k.from k.to lines) last.from last.to p w.ranged in
+      record { inside = finds-inside; path-is = own; few = w.few; ranged = r; plain-key = own-plain }
 
   -- or with another
-  pub knows-first : (from to : ℕ) → to ≤ length (functions_of gate tree) → ((k : List ℕ) → path_of k ≡ path_of (part a b lines) → Only k (functions_of gate tree) from to)
-      → Knows tree lines (record { key = Bytes a b; path = here.path; from = from; to = to; plain = here.plain })
+  pub knows-first : (from to : ℕ) → to ≤ length (functions_of gate tree) → ((j : List ℕ) → path_of j ≡ path_of (part k.from k.to lines) → Only j (functions_of gate tree) from to)
+      → Knows tree lines (record { key = Some k; path = here.path; from = from; to = to; plain = here.plain })
   knows-first from to h r = record { inside = finds-inside; path-is = own; few = h; ranged = r; plain-key = own-plain }
 
 -- the key itself: where it stands, and the functions that may have it
-module _ (tree lines : List ℕ) (last : Last) (a b : ℕ) (k : Knows tree lines last) (e : last.key ≡ Bytes a b) where
-  pub knows-inside : (a ≤ b) × (b ≤ length lines)
-  knows-inside = subst (KeyInside lines) e k.inside
+module _ (tree lines : List ℕ) (last : Last) (k : Span) (w : Knows tree lines last) (e : last.key ≡ Some k) where
+  pub knows-inside : (k.from ≤ k.to) × (k.to ≤ length lines)
+  knows-inside = subst (KeyInside lines) e w.inside
 
-  pub knows-only : Only (part a b lines) (functions_of gate tree) last.from last.to
-  knows-only = subst (λ j. Ranged (functions_of gate tree) (key_in lines j) last.from last.to) e k.ranged (part a b lines) refl
+  pub knows-only : Only (part k.from k.to lines) (functions_of gate tree) last.from last.to
+  knows-only = subst (λ j. Ranged (functions_of gate tree) (key_in lines j) last.from last.to) e w.ranged (part k.from k.to lines) refl

@@ -12,10 +12,10 @@ use Rattle.key_lines.specs.declared.Last.{Last}
 -- the lines from a place on up to another are plain, no key of them falls, and they add so many keys of so many bytes
 pub record Passes (tree s : List ℕ) (last : Last) (from : ℕ) (r : Run) : Type 0 where
   pub knows : Knows tree s r.last
-  pub onward : from + r.count ≤ r.from
-  pub few : 3 * from + r.bytes ≤ 3 * r.from
+  pub onward : from + r.size.count ≤ r.from
+  pub few : 3 * from + r.size.bytes ≤ 3 * r.from
   pub rises : Risen s last.key from → Risen s r.last.key r.from
-  pub counts : r.count + length (to_come tree s r.last.key r.from) ≡ length (to_come tree s last.key from)
-  pub sizes : r.bytes + length (key_lines (to_come tree s r.last.key r.from)) ≡ length (key_lines (to_come tree s last.key from))
+  pub counts : r.size.count + length (to_come tree s r.last.key r.from) ≡ length (to_come tree s last.key from)
+  pub sizes : r.size.bytes + length (key_lines (to_come tree s r.last.key r.from)) ≡ length (key_lines (to_come tree s last.key from))
   pub plain : PlainTo s from → PlainTo s r.from
-  pub keys : length (keys_in (drop from s)) ≡ r.count + length (keys_in (drop r.from s))
+  pub keys : length (keys_in (drop from s)) ≡ r.size.count + length (keys_in (drop r.from s))

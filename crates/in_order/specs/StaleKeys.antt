@@ -16,11 +16,6 @@ use Rattle.gate_rules.specs.Functions.{gate_limits}
 use Rattle.gate_rules.proofs.ListingSizes.{listing-length, stale-count}
 use Rattle.listed_keys.specs.KeyLines.{key_lines}
 
--- the records of the tree's functions stand, and there are n
-pub record AllStand (tree lent : List ℕ) (n : ℕ) : Type 0 where
-  pub stand : Stand tree lent
-  pub count : n ≡ length (functions_of gate tree)
-
 -- the stale keys of a baseline's lines
 abbrev pub stale_in : (tree lines : List ℕ) → List (List ℕ)
 stale_in tree lines = stale (entries_of_lines lines) (functions_of gate tree)

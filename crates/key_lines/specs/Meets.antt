@@ -1,13 +1,12 @@
 -- A line and the last key in front of it: how the key of the line stands to the last one, and whether it has its path. Keys that stand next to each other
 -- mostly have one path.
-use Rattle.std.specs.Prelude.{ℕ, ◌+◌, ◌≤◌, ◌-◌, ◌<◌, ◌≡◌, Bool, true, false, List, eqb, ltb, length, take, drop, get_or}
+use Rattle.std.specs.Prelude.{ℕ, Option, Some, None, ◌+◌, ◌≤◌, ◌-◌, ◌<◌, ◌≡◌, Bool, true, false, List, eqb, ltb, length, take, drop, get_or}
 use Rattle.std.proofs.Common.{ap, sym, subst, ◌∙◌, arith, length-drop, length-take, get_or-drop, get_or-take, take_all, take-take}
-use Rattle.std.proofs.Math.Option.{Option, none, some}
+use Rattle.std.proofs.Math.Option.{Option as MathOption, none, some}
 use Rattle.text_rules.specs.Bytes.{before, same}
 use Rattle.gate_rules.specs.Baseline.{entry_of}
 use Rattle.baseline.specs.Reads.{key_in, key_of_entry, line_at, KeyFrom, KeyInside}
-use Rattle.baseline.specs.declared.Key.{Key}
-use Rattle.baseline.specs.declared.Key.TheVariants.{Bytes, Nothing}
+use Rattle.baseline.specs.declared.Span.{Span}
 use Rattle.text_rules.specs.Classes.{tab}
 use Rattle.text_rules.specs.Search.{bytes_before, part}
 use Rattle.baseline.specs.Plain.{PlainLine, PlainKey}
@@ -15,7 +14,7 @@ use Rattle.prefix.specs.Common.{before-past, before-there, before-within, common
 use Rattle.key_lines.specs.declared.Found.{Found}
 
 -- the key is the last one before it
-abbrev pub repeats : Option (List ℕ) → List ℕ → Bool
+abbrev pub repeats : MathOption (List ℕ) → List ℕ → Bool
 repeats none k = false
 repeats (some l) k = same l k
 
@@ -27,12 +26,12 @@ pub record PlainAt (s : List ℕ) (from : ℕ) : Type 0 where
   pub line : PlainLine s from path name end
 
 -- the path of a key has so many bytes
-abbrev pub PathLength : Option (List ℕ) → ℕ → Type 0
+abbrev pub PathLength : MathOption (List ℕ) → ℕ → Type 0
 PathLength none n = Unit {0}
 PathLength (some l) n = n ≡ bytes_before tab l
 
 -- A key, the bytes of its path, and how many bytes its line has in common with the last key. The key is the beginning of the line.
-pub record Meets (last : Option (List ℕ)) (k : List ℕ) (path shared : ℕ) : Type 0 where
+pub record Meets (last : MathOption (List ℕ)) (k : List ℕ) (path shared : ℕ) : Type 0 where
   pub line : List ℕ
   pub begins : k ≡ take (length k) line
   pub within : length k ≤ length line
@@ -40,12 +39,12 @@ pub record Meets (last : Option (List ℕ)) (k : List ℕ) (path shared : ℕ) :
   pub path-is : path ≡ bytes_before tab line
   pub path_in : path < length k
 
-abbrev pub MeetsKey : Option (List ℕ) → Option (List ℕ) → (path shared : ℕ) → Type 0
+abbrev pub MeetsKey : MathOption (List ℕ) → MathOption (List ℕ) → (path shared : ℕ) → Type 0
 MeetsKey last none path shared = Unit {0}
 MeetsKey last (some k) path shared = Meets last k path shared
 
 -- what is found in a line
-pub record Finds (lines : List ℕ) (last : Key) (here : Found) : Type 0 where
+pub record Finds (lines : List ℕ) (last : Option Span) (here : Found) : Type 0 where
   pub inside : KeyInside lines here.key
   pub meets : MeetsKey (key_in lines last) (key_in lines here.key) here.path here.common
   pub plain-key : here.plain ≡ true → PlainKey lines here.key here.path
@@ -58,23 +57,25 @@ pub record OfLine (lines : List ℕ) (from : ℕ) (here : Found) : Type 0 where
   pub key-is : key_in lines here.key ≡ key_of_entry (entry_of (line_at lines from here.end))
   pub plain_at : here.plain ≡ true → PlainAt lines from
 
-module _ (o : Option (List ℕ)) (t : List ℕ) (n m : ℕ) (p : PathLength o n) (e : m ≡ common_with o t) (h : n < m) where
+module _ (o : MathOption (List ℕ)) (t : List ℕ) (n m : ℕ) (p : PathLength o n) (e : m ≡ common_with o t) (h : n < m) where
   -- a line that begins with the path and the tab of the last key has the path
   pub known-path : (n ≡ bytes_before tab t) × (n ≤ length t)
   known-path = go o p e
     where
-      go : (o : Option (List ℕ)) → PathLength o n → m ≡ common_with o t → (n ≡ bytes_before tab t) × (n ≤ length t)
+      go : (o : MathOption (List ℕ)) → PathLength o n → m ≡ common_with o t → (n ≡ bytes_before tab t) × (n ≤ length t)
       go none p e = absurd (omega arith)
       go (some l) p e =
           let most = common-most l t in
           let c = common-path l t (length t) (omega arith) (omega arith) in
           (p ∙ sym c.0 ∙ ap (bytes_before tab) (take_all (length t) t (omega arith)), omega arith)
 
-module _ (s : List ℕ) (last : Option (List ℕ)) (from to path shared : ℕ) (h : from ≤ to) (i : to ≤ length s) (p : path ≡ bytes_before tab (part from to s))
+module _ (s : List ℕ) (last : MathOption (List ℕ)) (from to path shared : ℕ) (h : from ≤ to) (i : to ≤ length s) (p : path ≡ bytes_before tab (part from to s))
     (m : shared ≡ common_with last (part from to s)) where
-  pub meets-line : (k : Key) → KeyFrom k from to path → MeetsKey last (key_in s k) path shared
-  meets-line Nothing f = tt
-  meets-line (Bytes a b) f =
+  pub meets-line : (k : Option Span) → KeyFrom k from to path → MeetsKey last (key_in s k) path shared
+  meets-line None f = tt
+  meets-line (Some k) f =
+      let a = k.from in
+      let b = k.to in
       let size : length (part a b s) ≡ b - a = simp (length-take, length-drop) (omega (arith, f)) in
       let whole : length (part from to s) ≡ to - from = simp (length-take, length-drop) (omega arith) in
       let front : part a b s ≡ take (b - from) (drop from s) = ap (λ (n : ℕ). part n b s) f.0 in
@@ -112,10 +113,10 @@ module _ (l k : List ℕ) (path shared : ℕ) (m : Meets (some l) k path shared)
   last-there h = ap (same l) m.begins ∙ same-there l m.line (length k) (omega (arith, m.shared-is)) m.within
 
 -- both keys by their bounds
-pub meets-both : (lines : List ℕ) (last : Key) (here : Found) (a b from to : ℕ) → last ≡ Bytes a b → here.key ≡ Bytes from to → Finds lines last here
-    → Meets (some (part a b lines)) (part from to lines) here.path here.common
-meets-both lines last here a b from to p q f =
-    subst (λ j. MeetsKey (key_in lines j) (some (part from to lines)) here.path here.common) p
+pub meets-both : (lines : List ℕ) (last : Option Span) (here : Found) (l k : Span) → last ≡ Some l → here.key ≡ Some k → Finds lines last here
+    → Meets (some (part l.from l.to lines)) (part k.from k.to lines) here.path here.common
+meets-both lines last here l k p q f =
+    subst (λ j. MeetsKey (key_in lines j) (some (part k.from k.to lines)) here.path here.common) p
     (subst (λ j. MeetsKey (key_in lines last) (key_in lines j) here.path here.common) q f.meets)
 
 pub part_length : (s : List ℕ) (a b : ℕ) → (a ≤ b) × (b ≤ length s) → length (part a b s) ≡ b - a

@@ -1,11 +1,10 @@
 -- A line against the last key, where that is plain: what they have in common is not read again.
-use Rattle.std.specs.Prelude.{ℕ, ◌+◌, ◌-◌, ◌≤◌, ◌<◌, min, ◌≡◌, true, List, length, drop, get_or}
+use Rattle.std.specs.Prelude.{ℕ, Option, Some, None, ◌+◌, ◌-◌, ◌≤◌, ◌<◌, min, ◌≡◌, true, List, length, drop, get_or}
 use Rattle.std.proofs.Common.{ap, sym, ◌∙◌, arith}
-use Rattle.std.proofs.Math.Option.{Option, none, some}
+use Rattle.std.proofs.Math.Option.{Option as MathOption, none, some}
 use Rattle.text_rules.proofs.ScanLaws.{rest_part}
 use Rattle.text_rules.specs.Search.{part}
-use Rattle.baseline.specs.declared.Key.{Key}
-use Rattle.baseline.specs.declared.Key.TheVariants.{Bytes, Nothing}
+use Rattle.baseline.specs.declared.Span.{Span}
 use Rattle.gate_rules.specs.Baseline.{entry_of}
 use Rattle.baseline.specs.declared.Bounds.{Bounds}
 use Rattle.baseline.specs.Plain.{Front, PlainKey, PlainLine}
@@ -15,7 +14,7 @@ use Rattle.key_lines.specs.Meets.{Finds, OfLine, meets-line, part-byte, part_len
 use Rattle.key_lines.specs.declared.Found.{Found}
 
 -- the bytes in common with a line, from those in common with all that follows
-pub shared-part : (o : Option (List ℕ)) (s : List ℕ) (from end m : ℕ) → m ≡ common_with o (part from (length s) s) → min m (end - from) ≡ common_with o (part from end s)
+pub shared-part : (o : MathOption (List ℕ)) (s : List ℕ) (from end m : ℕ) → m ≡ common_with o (part from (length s) s) → min m (end - from) ≡ common_with o (part from end s)
 shared-part none s from end m e = omega (arith, e)
 shared-part (some l) s from end m e = omega (arith, e, ap (common l) (rest_part s from), common-take l (drop from s) (end - from))
 
@@ -49,15 +48,15 @@ module _ (s : List ℕ) (a b from path c : ℕ) (f : Front s a (a + path) b) (h 
       }
 
 -- a line that goes on behind the path and the tab of a plain key
-pub line-front : (s : List ℕ) (k : Key) (from path c : ℕ) → PlainKey s k path → from < length s → c ≡ common_with (key_in s k) (part from (length s) s) → path < c → Front s from (from + path) (from + c)
-line-front s (Bytes a b) from path c f h e p = same-front s a b from path c f h e p
-line-front s Nothing from path c f h e p = absurd f
+pub line-front : (s : List ℕ) (k : Option Span) (from path c : ℕ) → PlainKey s k path → from < length s → c ≡ common_with (key_in s k) (part from (length s) s) → path < c → Front s from (from + path) (from + c)
+line-front s (Some k) from path c f h e p = same-front s k.from k.to from path c f h e p
+line-front s None from path c f h e p = absurd f
 
 -- what is found in a line that was read in one walk
-module _ (s : List ℕ) (last : Key) (from m n : ℕ) (l : Bounds) (p : PlainLine s from l.path l.name l.end) (e : m ≡ common_with (key_in s last) (part from (length s) s))
+module _ (s : List ℕ) (last : Option Span) (from m n : ℕ) (l : Bounds) (p : PlainLine s from l.path l.name l.end) (e : m ≡ common_with (key_in s last) (part from (length s) s))
     (k : n ≡ min m (l.end - from)) where
   abbrev found : Found
-  found = record { key = Bytes from l.name; path = l.path; common = n; end = l.end; plain = true }
+  found = record { key = Some (record { from = from; to = l.name }); path = l.path; common = n; end = l.end; plain = true }
 
   plain-begins : from ≤ l.end
   plain-begins = omega (arith, p.ends)
@@ -69,6 +68,6 @@ module _ (s : List ℕ) (last : Key) (from m n : ℕ) (l : Bounds) (p : PlainLin
   plain-finds =
       record {
         inside = (omega (arith, p.front.begins, p.front.goes_on), p.front.inside);
-        meets = meets-line s (key_in s last) from l.end l.path n plain-begins (omega (arith, p.inside)) p.path-is (k ∙ shared-part (key_in s last) s from l.end m e) (Bytes from l.name) p.key_in;
+        meets = meets-line s (key_in s last) from l.end l.path n plain-begins (omega (arith, p.inside)) p.path-is (k ∙ shared-part (key_in s last) s from l.end m e) (Some (record { from = from; to = l.name })) p.key_in;
         plain-key = λ q. p.front;
       }

@@ -2,7 +2,7 @@
 // key is not read again.
 #![tactic(auto)]
 
-ghost use Rattle.std.specs.Prelude.{◌≡◌, ◌≤◌, ◌<◌, min, true, false, length};
+ghost use Rattle.std.specs.Prelude.{◌≡◌, ◌≤◌, ◌<◌, true, false, length, Some};
 ghost use Rattle.text_rules.specs.Classes.{tab};
 ghost use Rattle.text_rules.specs.Search.{bytes_before, part};
 ghost use Rattle.gate_rules.specs.Baseline.{entry_of};
@@ -10,16 +10,16 @@ ghost use Rattle.prefix.specs.Common.{common_with};
 ghost use Rattle.baseline.specs.Ordered.{fallen};
 ghost use Rattle.baseline.specs.Plain.{PlainKey, ReadPlain};
 ghost use Rattle.baseline.specs.Reads.{KeyInside, key_in, key_of_entry};
-ghost use Rattle.baseline.specs.declared.Key.TheVariants.{Bytes};
 ghost use Rattle.key_lines.specs.Meets.{Finds, OfLine, PathLength, repeats};
 
-use baseline::{Key, Plain};
+use baseline::{Bounds, Span};
 
 // The last key, the bytes of its path, and the functions that may have a key with that path, from one number up to another. A plain key is known to have
 // one tab and no LF.
+// Kept: `plain` marks no missing value, and key, path and mark in an option of their own would be taken apart at each use of one of them.
 #[derive(Clone, Copy)]
 pub struct Last {
-    pub key: Key,
+    pub key: Option<Span>,
     pub path: usize,
     pub from: usize,
     pub to: usize,
@@ -27,34 +27,22 @@ pub struct Last {
 }
 
 // The key of a line, the bytes of its path, how many bytes the line has in common with the last key, and where it ends.
+// Kept: `plain` as in `Last`.
 #[derive(Clone, Copy)]
 pub struct Found {
-    pub key: Key,
+    pub key: Option<Span>,
     pub path: usize,
     pub common: usize,
     pub end: usize,
     pub plain: bool,
 }
 
-// The lesser of two numbers.
-fn least(a: usize, b: usize) -> usize
-    ensures { result ≡ min a b }
-{
-    if a < b {
-        return a;
-    }
-    b
-}
-
 // How many bytes a line has in common with the last key.
-pub fn common_with(lines: &[u8], last: Key, from: usize, to: usize) -> usize
+pub fn common_with(lines: &[u8], last: Option<Span>, from: usize, to: usize) -> usize
     requires { KeyInside lines.now last × (from ≤ to) × (to ≤ length lines.now) }
     ensures { result ≡ common_with (key_in lines.now last) (part from to lines.now) }
 {
-    match last {
-        Key::Bytes(a, b) => prefix::common(&lines[a..b], &lines[from..to]),
-        Key::Nothing => 0,
-    }
+    last.map_or(0, |l| prefix::common(l.of(lines), &lines[from..to]))
 }
 
 // The bytes of the path of a line: those of the last one, where the line begins with it and its tab.
@@ -108,7 +96,7 @@ fn any_line(lines: &[u8], last: Last, from: usize) -> Found
 }
 
 // The line at a place in one walk. What it has in common with a plain key that has its path is not read again.
-fn plain_line(lines: &[u8], last: Last, from: usize, common: usize) -> Plain
+fn plain_line(lines: &[u8], last: Last, from: usize, common: usize) -> Option<Bounds>
     requires { (last.plain ≡ true → PlainKey lines.now last.key last.path)
         × (from < length lines.now)
         × (common ≡ common_with (key_in lines.now last.key) (part from (length lines.now) lines.now)) }
@@ -133,53 +121,49 @@ pub fn line_at(lines: &[u8], last: Last, from: usize) -> Found
     let before = last.key;
     let common = common_with(lines, before, from, lines.len());
     match plain_line(lines, last, from, common) {
-        Plain::Line(l) => Found {
-            key: Key::Bytes(from, l.name),
+        Some(l) => Found {
+            key: Some(Span { from, to: l.name }),
             path: l.path,
-            common: least(common, l.end - from),
+            common: common.min(l.end - from),
             end: l.end,
             plain: true,
         },
-        Plain::Other => any_line(lines, last, from),
+        None => any_line(lines, last, from),
     }
 }
 
 // Whether the key of a line stands before the last key. Where there is none, it does not.
-pub fn falls(lines: &[u8], last: Key, here: Found) -> bool
+pub fn falls(lines: &[u8], last: Option<Span>, here: Found) -> bool
     requires { KeyInside lines.now last × Finds lines.now last here }
     ensures { result ≡ fallen (key_in lines.now last) (key_in lines.now here.key) }
 {
-    let key = here.key;
+    let (Some(k), Some(l)) = (here.key, last) else {
+        return false;
+    };
+    let key = k.of(lines);
+    let before = l.of(lines);
     let same = here.common;
-    match key {
-        Key::Bytes(from, to) => match last {
-            Key::Bytes(a, b) => {
-                if to - from <= same {
-                    return to - from < b - a;
-                }
-                if b - a <= same {
-                    return false;
-                }
-                lines[from + same] < lines[a + same]
-            }
-            Key::Nothing => false,
-        },
-        Key::Nothing => false,
+    if key.len() <= same {
+        return key.len() < before.len();
     }
+    if before.len() <= same {
+        return false;
+    }
+    key[same] < before[same]
 }
 
-// Whether the key of a line, which stands from one place up to another, is the last one.
-pub fn is_last(lines: &[u8], last: Key, here: Found, from: usize, to: usize) -> bool
-    requires { KeyInside lines.now last × Finds lines.now last here × (here.key ≡ Bytes from to) }
-    ensures { result ≡ repeats (key_in lines.now last) (part from to lines.now) }
+// Whether the key of a line is the last one.
+pub fn is_last(lines: &[u8], last: Option<Span>, here: Found, key: Span) -> bool
+    requires { KeyInside lines.now last × Finds lines.now last here × (here.key ≡ Some key) }
+    ensures { result ≡ repeats (key_in lines.now last) (part key.from key.to lines.now) }
 {
-    match last {
-        Key::Bytes(a, b) => {
-            if here.common < to - from {
-                return false;
-            }
-            b - a == to - from
-        }
-        Key::Nothing => false,
+    let Some(l) = last else {
+        return false;
+    };
+    let before = l.of(lines);
+    let key = key.of(lines);
+    if here.common < key.len() {
+        return false;
     }
+    before.len() == key.len()
 }

@@ -114,6 +114,11 @@ fn entry_of(tree: &[u8], k: usize) -> Entry
     Entry::read(tree, 4 + 16 * k)
 }
 
+// Kept: the path and the text of a file have functions of their own, here and above. The definitions have a word for each of the four numbers, and
+// one function for both would take a selector and state both contracts.
+
+// Kept: `laid` and `few` stand in each contract. A struct of a tree that is laid out would be asked of callers who have the bytes.
+
 // Where the path of a file stands.
 pub fn path_span(tree: &[u8], k: usize) -> Range<usize>
     requires { (is_laid_out tree.now ≡ true) × (k < file_count tree.now) }

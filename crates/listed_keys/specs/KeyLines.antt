@@ -37,7 +37,7 @@ lines-most keys m =
 
 -- ---- some keys, then the others
 
-lines-append : (ks js : List (List ℕ)) → key_lines (ks ++ js) ≡ key_lines ks ++ key_lines js
+pub lines-append : (ks js : List (List ℕ)) → key_lines (ks ++ js) ≡ key_lines ks ++ key_lines js
 lines-append ks js = ap listed (map-append spaced ks js) ∙ listed-append (map spaced ks) (map spaced js)
 
 module _ (here mine rest : List (List ℕ)) (e : here ≡ mine ++ rest) where
@@ -54,6 +54,11 @@ module _ (here mine rest : List (List ℕ)) (e : here ≡ mine ++ rest) where
       ap₂ (λ n x. put_at n (key_lines rest) x) w.0 w.1
       ∙ put_next at (key_lines mine) (key_lines rest) s (omega arith)
       ∙ ap (λ x. put_at at x s) (sym (ap key_lines e ∙ lines-append mine rest))
+
+-- no key has no line
+pub none_lines : (ks : List (List ℕ)) → ks ≡ [] → key_lines ks ≡ []
+unfolding listed
+none_lines ks e = ap key_lines e
 
 pub none_bytes : (ks : List (List ℕ)) → ks ≡ [] → length (key_lines ks) ≡ 0
 unfolding listed

@@ -42,3 +42,6 @@ justified-length width text =
 pub spaced-length : (key : List ℕ) → length (spaced key) ≡ length key
 unfolding spaced
 spaced-length key = length-map key _
+
+-- the lengths of what stays shut, for the room that a writer needs
+pub ruleset lengths = (justified-length, spaced-length)

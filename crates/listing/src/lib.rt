@@ -1,34 +1,122 @@
-// Texts and numbers written straight into the output. Each writer puts its own bytes from `at` on, changes no other byte and returns the place behind.
-// Each length is known before anything is written, so a caller can refuse an output that is too short and leave it as it was.
+// Texts and numbers written straight into the output. Each method puts its own bytes from the writer's place on, moves the place behind them and changes no
+// other byte. Each length is known before anything is written, so a caller can refuse an output that is too short and leave it as it was.
 #![tactic(auto)]
 
-ghost use Rattle.std.specs.Prelude.{◌≡◌, ◌+◌, ◌-◌, ◌≤◌, max, eqb, length, replicate};
-ghost use Rattle.text_rules.specs.Bytes.{if◌then◌otherwise◌, put_at};
+ghost use Rattle.std.specs.Prelude.{◌≡◌, ◌+◌, ◌<◌, ◌≤◌, max, eqb, length, replicate};
+ghost use Rattle.text_rules.specs.Bytes.{if◌then◌otherwise◌};
 ghost use Rattle.text_rules.specs.Classes.{space, tab};
 ghost use Rattle.text_rules.specs.Decimal.{decimal};
 ghost use Rattle.gate_rules.specs.Check.{spaced};
 ghost use Rattle.gate_rules.specs.Report.{justified};
-ghost use Rattle.listing.specs.Texts.{located, located_length, regression_count, regression_count_length};
+ghost use Rattle.listing.specs.Writes.{Room, Writes};
+ghost use Rattle.listing.specs.Texts.{located, located_length, regression_count};
 
-// The bytes of a text.
-pub fn put_text(out: &mut [u8], at: usize, text: &[u8]) -> usize
-    requires { at + length text.now ≤ length out.old }
-    ensures { (result ≡ at + length text.now) × (out.new ≡ put_at at text.now out.old) }
-{
-    let end = at + text.len();
-    out[at..end].copy_from_slice(text);
-    end
+// How many lines there are, and the bytes of all of them.
+#[derive(Clone, Copy)]
+pub struct Size {
+    pub count: usize,
+    pub bytes: usize,
 }
 
-// A text with a space for each tab.
-pub fn put_spaced(out: &mut [u8], at: usize, key: &[u8]) -> usize
-    requires { at + length key.now ≤ length out.old }
-    ensures { (result ≡ at + length key.now) × (out.new ≡ put_at at (spaced key.now) out.old) }
-{
-    for (i, b) in key.iter().enumerate() {
-        out[at + i] = untabbed(*b);
+impl Size {
+    // Together with the lines of another size.
+    pub fn plus(self, more: Size) -> Size
+        requires count_fits { self.count + more.count < 18446744073709551616 }
+        requires bytes_fit { self.bytes + more.bytes < 18446744073709551616 }
+        ensures count { result.count ≡ self.count + more.count }
+        ensures bytes { result.bytes ≡ self.bytes + more.bytes }
+    {
+        Size {
+            count: self.count + more.count,
+            bytes: self.bytes + more.bytes,
+        }
     }
-    at + key.len()
+}
+
+// An output, and the place where the next byte goes.
+#[derive(Drop)]
+pub struct Writer<'a> {
+    pub out: &'a mut [u8],
+    pub at: usize,
+}
+
+impl<'a> Writer<'a> {
+    // The bytes of a text.
+    pub fn text(&mut self, text: &[u8])
+        requires { Room text.now self.old }
+        ensures { Writes text.now self.old self.new }
+    {
+        let end = self.at + text.len();
+        self.out[self.at..end].copy_from_slice(text);
+        self.at = end;
+    }
+
+    // A text with a space for each tab.
+    pub fn spaced(&mut self, key: &[u8])
+        requires { Room (spaced key.now) self.old }
+        ensures { Writes (spaced key.now) self.old self.new }
+    {
+        for (i, b) in key.iter().enumerate() {
+            self.out[self.at + i] = untabbed(*b);
+        }
+        self.at += key.len();
+    }
+
+    // Spaces, `count` of them.
+    pub fn spaces(&mut self, count: usize)
+        requires { Room (replicate count space) self.old }
+        ensures { Writes (replicate count space) self.old self.new }
+    {
+        let end = self.at + count;
+        self.out[self.at..end].fill(b' ');
+        self.at = end;
+    }
+
+    // A number in decimal. Its digits are written from the last to the first, as division gives them.
+    pub fn number(&mut self, n: u64)
+        requires { Room (decimal n) self.old }
+        ensures { Writes (decimal n) self.old self.new }
+    {
+        let end = self.at + digits(n);
+        let mut rest = n;
+        for last in (self.at..end).rev() {
+            self.out[last] = b'0' + (rest % 10) as u8;
+            rest /= 10;
+        }
+        self.at = end;
+    }
+
+    // A number, right-justified to at least `width` columns.
+    #[tactic(auto, unfolding(gate_rules::specs::Report::justified), using(crate::specs::Writes::writes_then))]
+    pub fn justified(&mut self, width: usize, n: u64)
+        requires { Room (justified width (decimal n)) self.old }
+        ensures { Writes (justified width (decimal n)) self.old self.new }
+    {
+        self.spaces(width.saturating_sub(digits(n)));
+        self.number(n);
+    }
+
+    // path:line name
+    pub fn location(&mut self, path: &[u8], line: u32, name: &[u8])
+        requires { Room (located path.now line name.now) self.old }
+        ensures { Writes (located path.now line name.now) self.old self.new }
+    {
+        self.text(path);
+        self.text(b":");
+        self.number(u64::from(line));
+        self.text(b" ");
+        self.text(name);
+    }
+
+    // The first line of a verdict with regressions.
+    pub fn counted(&mut self, n: u64)
+        requires { Room (regression_count n) self.old }
+        ensures { Writes (regression_count n) self.old self.new }
+    {
+        self.text(b"complexity: ");
+        self.number(n);
+        self.text(b" regressions\n");
+    }
 }
 
 // A space for a tab.
@@ -38,42 +126,11 @@ fn untabbed(b: u8) -> u8
     if b == b'\t' { b' ' } else { b }
 }
 
-// Spaces, `count` of them.
-pub fn put_spaces(out: &mut [u8], at: usize, count: usize) -> usize
-    requires { at + count ≤ length out.old }
-    ensures { (result ≡ at + count) × (out.new ≡ put_at at (replicate count space) out.old) }
-{
-    let end = at + count;
-    out[at..end].fill(b' ');
-    end
-}
-
 // How many digits a number has in decimal.
 pub fn digits(n: u64) -> usize
     ensures { (result ≡ length (decimal n)) × (1 ≤ result) × (result ≤ 20) }
 {
     n.max(1).ilog10() as usize + 1
-}
-
-// A number in decimal. Its digits are written from the last to the first, as division gives them.
-pub fn put_number(out: &mut [u8], at: usize, n: u64) -> usize
-    requires { at + length (decimal n) ≤ length out.old }
-    ensures { (result ≡ at + length (decimal n)) × (out.new ≡ put_at at (decimal n) out.old) }
-{
-    let end = at + digits(n);
-    let mut rest = n;
-    for last in (at..end).rev() {
-        out[last] = b'0' + (rest % 10) as u8;
-        rest /= 10;
-    }
-    end
-}
-
-// How many spaces stand before a number that is right-justified.
-fn padding(width: usize, n: u64) -> usize
-    ensures { result ≡ width - length (decimal n) }
-{
-    width.saturating_sub(digits(n))
 }
 
 // The bytes of a right-justified number: the width, or all its digits where they are more.
@@ -83,41 +140,10 @@ pub fn justified_length(width: usize, n: u64) -> usize
     width.max(digits(n))
 }
 
-// A number, right-justified to at least `width` columns.
-pub fn put_justified(out: &mut [u8], at: usize, width: usize, n: u64) -> usize
-    requires { at + max width (length (decimal n)) ≤ length out.old }
-    ensures { (result ≡ at + max width (length (decimal n))) × (out.new ≡ put_at at (justified width (decimal n)) out.old) }
-{
-    let first = put_spaces(out, at, padding(width, n));
-    put_number(out, first, n)
-}
-
 // The bytes of path:line name.
 pub fn location_length(path: &[u8], line: u32, name: &[u8]) -> usize
     requires { length path.now + length name.now ≤ 4294967296 }
     ensures { result ≡ located_length path.now line name.now }
 {
     path.len() + 1 + digits(u64::from(line)) + 1 + name.len()
-}
-
-// path:line name
-pub fn put_location(out: &mut [u8], at: usize, path: &[u8], line: u32, name: &[u8]) -> usize
-    requires { at + located_length path.now line name.now ≤ length out.old }
-    ensures { (result ≡ at + located_length path.now line name.now) × (out.new ≡ put_at at (located path.now line name.now) out.old) }
-{
-    let colon = put_text(out, at, path);
-    let number = put_text(out, colon, b":");
-    let blank = put_number(out, number, u64::from(line));
-    let named = put_text(out, blank, b" ");
-    put_text(out, named, name)
-}
-
-// The first line of a verdict with regressions.
-pub fn put_counted(out: &mut [u8], at: usize, n: u64) -> usize
-    requires { at + regression_count_length n ≤ length out.old }
-    ensures { (result ≡ at + regression_count_length n) × (out.new ≡ put_at at (regression_count n) out.old) }
-{
-    let number = put_text(out, at, b"complexity: ");
-    let words = put_number(out, number, n);
-    put_text(out, words, b" regressions\n")
 }

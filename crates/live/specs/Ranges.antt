@@ -1,5 +1,5 @@
 -- Functions whose paths stand before or behind what stands before a key's first tab do not have the key.
-use Rattle.std.specs.Prelude.{ℕ, ◌≤◌, ◌<◌, ◌≡◌, true, false, List, length, get_or}
+use Rattle.std.specs.Prelude.{ℕ, ◌+◌, ◌-◌, ◌≤◌, ◌<◌, ◌≡◌, true, false, List, length, get_or}
 use Rattle.std.proofs.Common.{ap, ◌∙◌, arith}
 use Rattle.text_rules.specs.Bytes.{same}
 use Rattle.text_rules.specs.BytesLaws.{true_false}
@@ -10,7 +10,7 @@ use Rattle.gate_rules.specs.Scan.{Accepted, WellMade, functions_of}
 use Rattle.gate_rules.specs.Tree.{path_before}
 use Rattle.functions.specs.Shown.{Stand, no_fun}
 use Rattle.live.specs.Live.{Only, other_path, path_of}
-use Rattle.live.specs.PathOrder.{all_there, path_itself}
+use Rattle.live.specs.PathOrder.{all_there, before-front, behind-rest, path_itself}
 
 module _ (tree lent : List ℕ) (stand : Stand tree lent) (k : List ℕ) where
   accepted : Accepted gate tree
@@ -39,3 +39,12 @@ module _ (tree lent : List ℕ) (stand : Stand tree lent) (k : List ℕ) where
         front = λ i a b. not_front p e i (omega arith) (front i b);
         rest = λ i a b. not_rest p e i b (rest i a b);
       }
+
+  -- it is enough to know of the last one in front and of the first one from there on
+  pub only_ends : (p : List ℕ) → p ≡ path_of k → (from to n : ℕ) → n ≡ length (functions_of gate tree) → from ≤ n
+      → ((m : ℕ) → m + 1 ≡ from → path_before (get_or (functions_of gate tree) m no_fun).path p ≡ true)
+      → (to < n → path_before p (get_or (functions_of gate tree) to no_fun).path ≡ true) → Only k (functions_of gate tree) from to
+  only_ends p e from to n all h last first =
+      only p e from to (omega arith)
+      (λ i a. before-front tree stand.unrefused p (from - 1) (omega arith) (last (from - 1) (omega arith)) i (omega arith))
+      (λ i a b. behind-rest tree stand.unrefused p to (omega arith) (first (omega arith)) i a b)

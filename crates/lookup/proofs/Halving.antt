@@ -4,7 +4,8 @@ use mathlib.Core.Path.{◌≡◌, refl, ap, subst, sym, ◌∙◌}
 use mathlib.Core.Logic.{inl, inr}
 use mathlib.Core.Bool.{true, false}
 use mathlib.Core.List.{List, [], ◌∷◌, ◌++◌, append_assoc, map}
-use mathlib.Core.Option.{Option, none, some}
+use mathlib.Core.Option.{Option as MathOption, none, some}
+use Rattle.std.specs.Prelude.{Option, Some, None, is_some}
 use native.Mathlib.Omega.{arith}
 use lib.Dec.{eqb, ltb}
 use lib.ListN.{length, drop, get_or, length-drop}
@@ -19,10 +20,8 @@ use Rattle.lookup.specs.Halves.{Below, Between, Leads, below, beyond, later}
 use Rattle.baseline.specs.Ordered.{Unfalling, keys-next, keys_in, one_key, unfalling_front, unfalling_rest}
 use Rattle.baseline.specs.Reads.{KeyInside, accepted_by, key_in, key_of_entry, line_at}
 use Rattle.baseline.specs.Steps.{entries_next, entry_list}
-use Rattle.baseline.specs.declared.Accepted.{Accepted}
-use Rattle.baseline.specs.declared.Accepted.TheVariants.{Unlisted}
-use Rattle.baseline.specs.declared.Key.{Key}
-use Rattle.baseline.specs.declared.Key.TheVariants.{Nothing}
+use Rattle.baseline.specs.declared.Recorded.{Recorded}
+use Rattle.baseline.specs.declared.Span.{Span}
 use Rattle.lookup.proofs.Finds.{found-start, found_from}
 use Rattle.lookup.proofs.KeyOrder.{before-other}
 
@@ -71,17 +70,22 @@ module _ (s : List ℕ) (from at end to : ℕ) (c : entries_of_lines (drop from 
   line : entries_of_lines (drop from s) ≡ entry_list (entry_of (part at to s)) ++ entries_of_lines (drop (end + 1) s)
   line = c ∙ entries_next s at end e ∙ ap (λ l. entry_list (entry_of l) ++ entries_of_lines (drop (end + 1) s)) (sym p)
 
-  pub lead_found : (key : Key) → KeyInside s key → key_in s key ≡ key_of_entry (entry_of (part at to s)) → Leads s from key (end + 1)
+  pub lead_found : (key : Option Span) → KeyInside s key → key_in s key ≡ key_of_entry (entry_of (part at to s)) → Leads s from key (end + 1)
   lead_found key i q = record { entry = entry_of (part at to s); cut = line; key-is = q; inside = i }
 
   pub lead_next : none ≡ key_of_entry (entry_of (part at to s)) → entries_of_lines (drop from s) ≡ entries_of_lines (drop (end + 1) s)
   lead_next q = line ∙ ap (λ o. entry_list o ++ entries_of_lines (drop (end + 1) s)) (absent (entry_of (part at to s)) q)
     where
-      absent : (o : Option Entry) → none ≡ key_of_entry o → o ≡ none
+      absent : (o : MathOption Entry) → none ≡ key_of_entry o → o ≡ none
       absent none d = refl
       absent (some x) d = cc
 
-pub lead_none : (s : List ℕ) (from at : ℕ) → entries_of_lines (drop from s) ≡ entries_of_lines (drop at s) → Leads s from Nothing at
+  -- a line without a key is passed
+  pub lead_past : (key : Option Span) → is_some key ≡ false → key_in s key ≡ key_of_entry (entry_of (part at to s)) → entries_of_lines (drop from s) ≡ entries_of_lines (drop (end + 1) s)
+  lead_past None h q = lead_next q
+  lead_past (Some k) h q = cc
+
+pub lead_none : (s : List ℕ) (from at : ℕ) → entries_of_lines (drop from s) ≡ entries_of_lines (drop at s) → Leads s from None at
 lead_none s from at c = record { entry = none; cut = c; key-is = refl; inside = tt }
 
 -- in front of a key that stands before k, every key does
@@ -89,7 +93,7 @@ pub below-start : (s k : List ℕ) → Below s k 0
 below-start s k = record { passed = []; cut = refl; all-before = tt }
 
 module _ (s k : List ℕ) (rise : Unfalling (keys_in s)) (lo from : ℕ) (b : Below s k lo) (w : Between s lo from) where
-  past-entry : (next : ℕ) (o : Option Entry) → entries_of_lines (drop from s) ≡ entry_list o ++ entries_of_lines (drop next s) → below (key_of_entry o) k ≡ true → Below s k next
+  past-entry : (next : ℕ) (o : MathOption Entry) → entries_of_lines (drop from s) ≡ entry_list o ++ entries_of_lines (drop next s) → below (key_of_entry o) k ≡ true → Below s k next
   past-entry next none c h = absurd (true_false false h refl)
   past-entry next (some e) c h =
       let rest = entries_of_lines (drop next s) in
@@ -106,7 +110,7 @@ module _ (s k : List ℕ) (rise : Unfalling (keys_in s)) (lo from : ℕ) (b : Be
       through : (j i : List ℕ) → before i j ≡ false → before i k ≡ true → before j k ≡ true
       through j i d g = elim (before_orders.splits i j k g) [ inl x ↦ absurd (true_false (before i j) x d) | inr x ↦ x ]
 
-  pub below_next : (next : ℕ) (key : Key) → Leads s from key next → below (key_in s key) k ≡ true → Below s k next
+  pub below_next : (next : ℕ) (key : Option Span) → Leads s from key next → below (key_in s key) k ≡ true → Below s k next
   below_next next key l h = past-entry next l.entry l.cut (sym (ap (λ o. below o k) l.key-is) ∙ h)
 
 -- entries with other keys
@@ -115,7 +119,7 @@ unfolding lookup
 lookup_skip k [] es h = refl
 lookup_skip k (d ∷ ds) es h = rw (h.0, lookup_skip k ds es h.1) (kept (lookup k es))
   where
-    kept : (o : Option Entry) → later_of none o ≡ o
+    kept : (o : MathOption Entry) → later_of none o ≡ o
     kept none = refl
     kept (some e) = refl
 
@@ -125,7 +129,7 @@ lookup-none k [] h = refl
 lookup-none k (e ∷ es) h = rw (h.0, lookup-none k es h.1)
 
 -- what is found from a place on, in front of which every key stands before k
-pub found_below : (s k : List ℕ) (at : ℕ) → Below s k at → found_from Unlisted k s at ≡ accepted_by (lookup k (entries_of_lines s))
+pub found_below : (s k : List ℕ) (at : ℕ) → Below s k at → found_from None k s at ≡ accepted_by (lookup k (entries_of_lines s))
 found_below s k at b =
     found-start k (drop at s)
     ∙ ap accepted_by (sym (ap (lookup k) b.cut ∙ lookup_skip k b.passed (entries_of_lines (drop at s)) (All-map _ _ (λ j e. before-other j k e) (map entry_key b.passed) b.all-before)))
@@ -153,11 +157,11 @@ module _ (s k : List ℕ) (from end to : ℕ) (e : end ≡ from + bytes_before 1
       other : (i : List ℕ) → before i j ≡ false → i ≡ k → ⊥
       other i d q = true_false (before k j) h (ap (λ x. before x j) (sym q) ∙ d)
 
-  none_left : (o : Option (List ℕ)) → o ≡ key_of_entry (entry_of (part from to s)) → beyond o k ≡ true → lookup k (entries_of_lines (drop from s)) ≡ none
+  none_left : (o : MathOption (List ℕ)) → o ≡ key_of_entry (entry_of (part from to s)) → beyond o k ≡ true → lookup k (entries_of_lines (drop from s)) ≡ none
   none_left none q h = absurd (true_false false h refl)
   none_left (some j) q h =
       let keys : keys_in (drop from s) ≡ j ∷ keys_in (drop (end + 1) s) = keys-next s from end to (some j) e p q in
       lookup-none k (entries_of_lines (drop from s)) (subst (All (λ i. same i k ≡ false)) (sym keys) (others j (keys_in (drop (end + 1) s)) (subst Unfalling keys u) h))
 
-  pub found-beyond : (found : Accepted) (key : Key) → key_in s key ≡ key_of_entry (entry_of (part from to s)) → beyond (key_in s key) k ≡ true → found_from found k s from ≡ found
+  pub found-beyond : (found : Option Recorded) (key : Option Span) → key_in s key ≡ key_of_entry (entry_of (part from to s)) → beyond (key_in s key) k ≡ true → found_from found k s from ≡ found
   found-beyond found key q h = ap (λ o. later found (accepted_by o)) (none_left (key_in s key) q h)

@@ -1,13 +1,12 @@
 -- Look-up by halves in a baseline whose keys never fall: what its parts tell.
-use Rattle.std.specs.Prelude.{ℕ, ◌≡◌, Bool, true, false, List, ◌++◌, map, drop}
-use Rattle.std.proofs.Math.Option.{Option, none, some}
+use Rattle.std.specs.Prelude.{ℕ, ◌≡◌, Bool, true, false, List, ◌++◌, map, drop, Option, Some, None}
+use Rattle.std.proofs.Math.Option.{Option as MathOption, none, some}
 use Rattle.text_rules.specs.Bytes.{All, before}
 use Rattle.gate_rules.specs.Baseline.{Entry, entries_of_lines, entry_key}
 use Rattle.baseline.specs.Reads.{KeyInside, key_in, key_of_entry}
 use Rattle.baseline.specs.Steps.{entry_list}
-use Rattle.baseline.specs.declared.Accepted.{Accepted}
-use Rattle.baseline.specs.declared.Accepted.TheVariants.{Measures, Unlisted}
-use Rattle.baseline.specs.declared.Key.{Key}
+use Rattle.baseline.specs.declared.Recorded.{Recorded}
+use Rattle.baseline.specs.declared.Span.{Span}
 
 -- between two places stand whole lines
 pub record Between (s : List ℕ) (from at : ℕ) : Type 0 where
@@ -15,8 +14,8 @@ pub record Between (s : List ℕ) (from at : ℕ) : Type 0 where
   pub cut : entries_of_lines (drop from s) ≡ passed ++ entries_of_lines (drop at s)
 
 -- from a place up to the next there is at most one entry, with this key
-pub record Leads (s : List ℕ) (from : ℕ) (key : Key) (next : ℕ) : Type 0 where
-  pub entry : Option Entry
+pub record Leads (s : List ℕ) (from : ℕ) (key : Option Span) (next : ℕ) : Type 0 where
+  pub entry : MathOption Entry
   pub cut : entries_of_lines (drop from s) ≡ entry_list entry ++ entries_of_lines (drop next s)
   pub key-is : key_in s key ≡ key_of_entry entry
   pub inside : KeyInside s key
@@ -28,15 +27,15 @@ pub record Below (s k : List ℕ) (at : ℕ) : Type 0 where
   pub all-before : All (λ j. before j k ≡ true) (map entry_key passed)
 
 -- the key of a line, where there is one, stands before k, or behind it
-abbrev pub below : Option (List ℕ) → List ℕ → Bool
+abbrev pub below : MathOption (List ℕ) → List ℕ → Bool
 below none k = false
 below (some j) k = before j k
 
-abbrev pub beyond : Option (List ℕ) → List ℕ → Bool
+abbrev pub beyond : MathOption (List ℕ) → List ℕ → Bool
 beyond none k = false
 beyond (some j) k = before k j
 
 -- the later of two finds
-abbrev pub later : Accepted → Accepted → Accepted
-later found (Measures m) = Measures m
-later found Unlisted = found
+abbrev pub later : Option Recorded → Option Recorded → Option Recorded
+later found (Some m) = Some m
+later found None = found

@@ -1,16 +1,17 @@
 // The look-up of a function's key in a baseline whose keys never fall: by halves, and then line by line. Nothing is copied.
 #![tactic(auto)]
 
-ghost use Rattle.std.specs.Prelude.{◌≡◌, false, ◌≤◌, ◌<◌, length};
+ghost use Rattle.std.specs.Prelude.{◌≡◌, false, ◌≤◌, ◌<◌, length, get_or, IfSome};
 ghost use Rattle.std.proofs.Math.Option.{none};
 ghost use Rattle.text_rules.specs.Bytes.{before};
+ghost use Rattle.text_rules.specs.Classes.{lf};
 ghost use Rattle.gate_rules.specs.Baseline.{entries_of_lines, entry_of, lookup};
 ghost use Rattle.gate_rules.specs.Functions.{key_of};
-ghost use Rattle.lookup.specs.Halves.{Below, Between, Leads, below, beyond, later};
+ghost use Rattle.lookup.specs.Halves.{Below, Between, Leads, below, beyond};
 ghost use Rattle.baseline.specs.Ordered.{Unfalling, keys_in};
 ghost use Rattle.baseline.specs.Reads.{KeyInside, accepted_by, hit, key_in};
 
-use baseline::{Accepted, Key, Line, Recorded};
+use baseline::{Recorded, Span};
 
 const TAB: u8 = b'\t';
 
@@ -33,36 +34,20 @@ fn begins_with(line: &[u8], path: &[u8], name: &[u8]) -> bool
 }
 
 // What a line accepts of the function with this path and name.
-fn in_line(line: &[u8], path: &[u8], name: &[u8]) -> Accepted
+fn in_line(line: &[u8], path: &[u8], name: &[u8]) -> Option<Recorded>
     ensures { result ≡ accepted_by (hit (key_of path.now name.now) (entry_of line.now)) }
 {
     if !begins_with(line, path, name) {
-        return Accepted::Unlisted;
+        return None;
     }
-    match baseline::entry(line) {
-        Line::Entry(e) => {
-            let end = e.name_end;
-            if baseline::is_key(&line[..end], path, name) {
-                Accepted::Measures(Recorded {
-                    cyclomatic: e.cyclomatic,
-                    lines: e.lines,
-                })
-            } else {
-                Accepted::Unlisted
-            }
-        }
-        Line::Nothing => Accepted::Unlisted,
+    let e = baseline::entry(line)?;
+    if !baseline::is_key(&line[..e.name_end], path, name) {
+        return None;
     }
-}
-
-// Of two finds the later one wins.
-fn later(found: Accepted, next: Accepted) -> Accepted
-    ensures { result ≡ later found next }
-{
-    match next {
-        Accepted::Measures(m) => Accepted::Measures(m),
-        Accepted::Unlisted => found,
-    }
+    Some(Recorded {
+        cyclomatic: e.cyclomatic,
+        lines: e.lines,
+    })
 }
 
 // ---- by halves
@@ -91,14 +76,12 @@ fn key_before(key: &[u8], path: &[u8], name: &[u8]) -> bool
 }
 
 // Whether the key of a line stands before that of path and name.
-fn is_below(baseline: &[u8], here: Key, path: &[u8], name: &[u8]) -> bool
+// Kept: `is_some_and` is what this function and `is_beyond` share.
+fn is_below(baseline: &[u8], here: Option<Span>, path: &[u8], name: &[u8]) -> bool
     requires { KeyInside baseline.now here }
     ensures { result ≡ below (key_in baseline.now here) (key_of path.now name.now) }
 {
-    match here {
-        Key::Bytes(from, to) => key_before(&baseline[from..to], path, name),
-        Key::Nothing => false,
-    }
+    here.is_some_and(|k| key_before(k.of(baseline), path, name))
 }
 
 // Whether the bytes stand behind those of path, tab and name: they are not the same, and do not stand before them.
@@ -112,14 +95,18 @@ fn key_behind(key: &[u8], path: &[u8], name: &[u8]) -> bool
 }
 
 // Whether the key of a line stands behind that of path and name.
-fn is_beyond(baseline: &[u8], here: Key, path: &[u8], name: &[u8]) -> bool
+fn is_beyond(baseline: &[u8], here: Option<Span>, path: &[u8], name: &[u8]) -> bool
     requires { KeyInside baseline.now here }
     ensures { result ≡ beyond (key_in baseline.now here) (key_of path.now name.now) }
 {
-    match here {
-        Key::Bytes(from, to) => key_behind(&baseline[from..to], path, name),
-        Key::Nothing => false,
-    }
+    here.is_some_and(|k| key_behind(k.of(baseline), path, name))
+}
+
+// The last LF.
+fn last_lf(s: &[u8]) -> Option<usize>
+    ensures { IfSome result (λ i. (i < length s.now) × (get_or s.now i 0 ≡ lf)) }
+{
+    s.iter().rposition(|b| *b == LF)
 }
 
 // Where the line begins that holds a place, or the least place.
@@ -127,20 +114,16 @@ fn line_start(s: &[u8], least: usize, at: usize) -> usize
     requires { (least ≤ at) × (at ≤ length s.now) }
     ensures { (least ≤ result) × (result ≤ at) × Between s.now least result }
 {
-    let mut from = at;
-    while least < from {
-        if s[from - 1] == LF {
-            return from;
-        }
-        from -= 1;
+    match last_lf(&s[least..at]) {
+        Some(i) => least + i + 1,
+        None => least,
     }
-    from
 }
 
 // The first key of some lines, and where the line behind its own begins.
 #[derive(Drop)]
 struct First {
-    key: Key,
+    key: Option<Span>,
     next: usize,
 }
 
@@ -150,24 +133,18 @@ fn first_key(baseline: &[u8], from: usize, end: usize) -> First
     ensures { (from < result.next) × Leads baseline.now from result.key result.next }
 {
     let mut at = from;
+    // Kept: the place of each line is wanted, which the library's split does not tell.
     while at < end {
         let stop = baseline::line_end(baseline, at);
         let to = baseline::trimmed_end(baseline, at, stop);
-        let here = baseline::key_at(baseline, at, to);
-        match here {
-            Key::Bytes(a, b) => {
-                return First {
-                    key: Key::Bytes(a, b),
-                    next: stop + 1,
-                };
-            }
-            Key::Nothing => {
-                at = stop + 1;
-            }
+        let key = baseline::key_at(baseline, at, to);
+        at = stop + 1;
+        if key.is_some() {
+            return First { key, next: at };
         }
     }
     First {
-        key: Key::Nothing,
+        key: None,
         next: at,
     }
 }
@@ -179,6 +156,7 @@ fn first_place(baseline: &[u8], path: &[u8], name: &[u8]) -> usize
 {
     let mut lo: usize = 0;
     let mut hi = baseline.len();
+    // Kept: the part is cut where lines begin, so no range of numbers is halved.
     while lo < hi {
         let from = line_start(baseline, lo, lo + (hi - lo) / 2);
         let first = first_key(baseline, from, hi);
@@ -193,27 +171,27 @@ fn first_place(baseline: &[u8], path: &[u8], name: &[u8]) -> usize
 }
 
 // What the lines from a place on accept. The first key that stands behind that of path and name ends the search.
-fn lookup_from(baseline: &[u8], path: &[u8], name: &[u8], place: usize) -> Accepted
+fn lookup_from(baseline: &[u8], path: &[u8], name: &[u8], place: usize) -> Option<Recorded>
     requires { Unfalling (keys_in baseline.now) × Below baseline.now (key_of path.now name.now) place }
     ensures { result ≡ accepted_by (lookup (key_of path.now name.now) (entries_of_lines baseline.now)) }
 {
-    let mut found = Accepted::Unlisted;
+    let mut found = None;
     let mut from = place;
+    // Kept: the place of each line is wanted, which the library's split does not tell.
     while from < baseline.len() {
         let end = baseline::line_end(baseline, from);
         let to = baseline::trimmed_end(baseline, from, end);
         if is_beyond(baseline, baseline::key_at(baseline, from, to), path, name) {
             return found;
         }
-        let line = in_line(&baseline[from..to], path, name);
-        found = later(found, line);
+        found = in_line(&baseline[from..to], path, name).or(found);
         from = end + 1;
     }
     found
 }
 
 // What a baseline whose keys never fall accepts of the function with this path and name. Of equal keys the last line wins.
-pub fn lookup_ordered(baseline: &[u8], path: &[u8], name: &[u8]) -> Accepted
+pub fn lookup_ordered(baseline: &[u8], path: &[u8], name: &[u8]) -> Option<Recorded>
     requires { Unfalling (keys_in baseline.now) }
     ensures { result ≡ accepted_by (lookup (key_of path.now name.now) (entries_of_lines baseline.now)) }
 {

@@ -28,3 +28,6 @@ mean_length total count = tenths_length (mean_tenths total (max 1 count))
 
 pub mean-length : (total count : ℕ) → length (mean_text total count) ≡ mean_length total count
 mean-length total count = ap length (mean-is total count) ∙ tenths_length_lem (mean_tenths total (max 1 count))
+
+-- the length of what stays shut, for the room that a writer needs
+pub ruleset lengths = (mean-length)

@@ -5,10 +5,11 @@ ghost use Rattle.std.specs.Prelude.{◌≡◌, ◌+◌, ◌<◌, ◌≤◌, ◌^
 ghost use Rattle.std.specs.Float.Ieee.{of_bits};
 ghost use Rattle.std.specs.Float.{binary64};
 ghost use Rattle.std.specs.Float.Ieee.Nearest.{closest};
-ghost use Rattle.text_rules.specs.Bytes.{put_at};
 ghost use Rattle.gate_rules.specs.Mean.{mean_tenths, mean_text, tenths_of};
-ghost use Rattle.mean.specs.Texts.{mean_length, tenths_length, tenths_text};
+ghost use Rattle.listing.specs.Writes.{Room, Writes};
+ghost use Rattle.mean.specs.Texts.{mean_length, tenths_text};
 
+use listing::Writer;
 use std::cmp::Ordering;
 
 // 2 to the k.
@@ -65,13 +66,13 @@ fn printed(total: u32, count: u32) -> u64
 }
 
 // A number of tenths with a point before its last digit.
-fn put_tenths(out: &mut [u8], at: usize, tenths: u64) -> usize
-    requires { at + tenths_length tenths ≤ length out.old }
-    ensures { (result ≡ at + tenths_length tenths) × (out.new ≡ put_at at (tenths_text tenths) out.old) }
+fn write_tenths(w: &mut Writer<'_>, tenths: u64)
+    requires { Room (tenths_text tenths) w.old }
+    ensures { Writes (tenths_text tenths) w.old w.new }
 {
-    let point = listing::put_number(out, at, tenths / 10);
-    let tenth = listing::put_text(out, point, b".");
-    listing::put_number(out, tenth, tenths % 10)
+    w.number(tenths / 10);
+    w.text(b".");
+    w.number(tenths % 10);
 }
 
 // The bytes of a mean as it is printed.
@@ -83,9 +84,10 @@ pub fn mean_length(total: u32, count: u32) -> usize
 }
 
 // A mean with one digit behind the point.
-pub fn put_mean(out: &mut [u8], at: usize, total: u32, count: u32) -> usize
-    requires { (total ≤ 16777216) × (at + mean_length total count ≤ length out.old) }
-    ensures { (result ≡ at + mean_length total count) × (out.new ≡ put_at at (mean_text total count) out.old) }
+#[tactic(auto, unfolding(gate_rules::specs::Mean::mean_text))]
+pub fn write_mean(w: &mut Writer<'_>, total: u32, count: u32)
+    requires { (total ≤ 16777216) × Room (mean_text total count) w.old }
+    ensures { Writes (mean_text total count) w.old w.new }
 {
-    put_tenths(out, at, printed(total, count))
+    write_tenths(w, printed(total, count));
 }

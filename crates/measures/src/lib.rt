@@ -1,10 +1,9 @@
 // What is measured of a function's body: the cyclomatic number, the nesting and the lines.
-// A body is walked by whole pieces, so that `iffy` is not read as `if`: `walk_from` finds its end and its measures in one pass, `walk` is given a body
-// that was found.
+// A body is walked by whole pieces, so that `iffy` is not read as `if`: `walk_from` finds its end and its measures in one pass, `walk` is given a
+// body that was found.
 #![tactic(auto)]
 
 ghost use Rattle.std.specs.Prelude.{◌≡◌, false, true, [], ◌∷◌, ◌+◌, ◌≤◌, ◌<◌, length, drop, get_or};
-ghost use Rattle.std.specs.List.{prefix_len};
 ghost use Rattle.text_rules.specs.Bytes.{among, ascii};
 ghost use Rattle.text_rules.specs.Classes.{brace_open, is_letter, is_word};
 ghost use Rattle.text_rules.specs.Search.{run};
@@ -40,22 +39,13 @@ fn shape_of(body: &[u8]) -> Shape
     Shape { nesting, lines }
 }
 
-// How long the word is that a text begins with.
-fn word_len(table: &Classes, s: &[u8]) -> usize
-    ensures count { result ≡ prefix_len is_word s.now }
-    ensures inside { result ≤ length s.now }
-{
-    s.iter().take_while(|b| table.is_word(**b)).count()
-}
-
 // The place behind the word that stands at a place.
-#[tactic(auto, using(crate::proofs::Words::run_from))]
 fn word_end(table: &Classes, s: &[u8], from: usize) -> usize
     requires { from ≤ length s.now }
     ensures end { result ≡ from + run is_word (drop from s.now) }
     ensures inside { result ≤ length s.now }
 {
-    from + word_len(table, &s[from..])
+    seek::end_while(s, from, |b| table.is_word(b))
 }
 
 // Whether a word adds 1 to the cyclomatic number. `match` does not: its arms do. `else` does not: its `if` does.
@@ -74,6 +64,7 @@ fn is_pair(b: u8, c: u8) -> bool
 }
 
 // A piece of a body: a word, a pair, or one byte, up to `end`.
+// Kept: each has an end, whether it decides or not, so the two are no option.
 #[derive(Clone, Copy)]
 struct Piece {
     end: usize,
@@ -165,7 +156,8 @@ pub struct Body {
     pub measures: Walked,
 }
 
-// The body whose opening brace stands at a place, if it is closed. `depth` counts the braces that are open inside it. The commonest bytes are tested first.
+// The body whose opening brace stands at a place, if it is closed. `depth` counts the braces that are open inside it. The commonest bytes are tested
+// first.
 pub fn walk_from(s: &[u8], from: usize) -> Option<Body>
     requires { (from < length s.now) × (get_or s.now from 0 ≡ brace_open) }
     ensures { WalkedFrom s.now from result }

@@ -1,8 +1,8 @@
-// What the last long searches for a body found, each kept by what it has counted at one place of the text. A search that comes to that place at the same
-// depths finds the same, and is not made again.
+// What the last long searches for a body found, each kept by what it has counted at one place of the text. A search that comes to that place at the
+// same depths finds the same, and is not made again.
 #![tactic(auto)]
 
-ghost use Rattle.std.specs.Prelude.{◌≡◌, true, ◌≢◌, ℕ, ◌+◌, ◌≤◌, ◌<◌, length, get_or};
+ghost use Rattle.std.specs.Prelude.{◌≡◌, true, ◌≢◌, ℕ, ◌+◌, ◌≤◌, ◌<◌, length, get_or, MatchOption};
 ghost use Rattle.std.proofs.Math.Option.{Option};
 ghost use Rattle.flat.specs.Body.{Counted, Reaches, body_from};
 ghost use Rattle.chunks.specs.Table.{Summed};
@@ -11,10 +11,12 @@ ghost use Rattle.memo.specs.Memo.{Entry, Keeps, Known, Meets, Moves, Recalls, Su
 use chunks::Chunk;
 use flat::{Counts, Reached};
 
-// The searches that are kept. The array's first number is the place, its second tells which search is given up next; behind them stand for each search
-// its open angle brackets, the square brackets that it has seen opened and closed, and what it finds; and last, how far they go.
+// The searches that are kept. The array's first number is the place, its second tells which search is given up next; behind them stand for each
+// search its open angle brackets, the square brackets that it has seen opened and closed, and what it finds; and last, how far they go.
 // Kept: one array of fixed length, since it is lent by the caller and a call takes no memory beside what is lent.
 const MOST: usize = 64;
+
+// Kept: a text and its sums are two parameters in this crate, as in `chunks`, to which both are handed on.
 
 // The chunk at a place, where it ends before another: what a search has counted behind it. None where the search may end in it.
 fn past_before(s: &[u8], t: &[u16; 36865], at: usize, to: usize, n: Counts) -> Option<Counts>
@@ -61,7 +63,8 @@ pub fn body_until(s: &[u8], t: &[u16; 36865], from: usize, to: usize, n: Counts)
     Reached::Further(counts)
 }
 
-// A search with an index, by its counts and its number: 0 tells nothing, 1 that it finds none, a higher one that it finds the brace two places below it.
+// A search with an index, by its counts and its number: 0 tells nothing, 1 that it finds none, a higher one that it finds the brace two places below
+// it.
 fn put(f: &mut [usize; 259], i: usize, n: Counts, number: usize)
     requires { (length f.old ≡ 259) × (i < 64) }
     ensures { f.new ≡ set_entry f.old i n number }
@@ -165,11 +168,9 @@ fn advance(s: &[u8], t: &[u16; 36865], to: usize, f: &mut [usize; 259])
         × Summed s.now t.now }
     ensures { (get_or f.new 0 0 ≡ to) × Recalls s.now f.new }
 {
-    let mut at = f[0];
-    // Kept: the last step is shorter than a chunk, so no `for` counts the steps.
-    while at < to {
-        at = flat::ahead(at, chunks::SIZE, to);
-        move_all(s, t, at, f);
+    let from = f[0];
+    for at in (from..to).step_by(chunks::SIZE) {
+        move_all(s, t, at.saturating_add(chunks::SIZE).min(to), f);
     }
 }
 
@@ -181,35 +182,37 @@ fn is_same(a: Counts, b: Counts) -> bool
     a.angle == b.angle && a.opened + b.closed == b.opened + a.closed
 }
 
-// The number of a search that is kept with the same depths, 0 where none is.
-fn find(f: &[usize; 259], n: Counts) -> usize
+// The number of a search that is kept with the same depths.
+fn find(f: &[usize; 259], n: Counts) -> Option<usize>
     requires { (length f.now ≡ 259)
         × Counted n 9223372036854775807
         × ((i : ℕ) → i < 64 → number_at f.now i ≢ 0 → Counted (counts_at f.now i) 9223372036854775807) }
-    ensures { Meets f.now n result }
+    ensures { MatchOption result (Unit {0}) (λ number. (number ≢ 0) × Meets f.now n number) }
 {
     for i in 0..MOST {
         let number = f[194 + i];
         if number != 0 && is_same(counts_of(f, i), n) {
-            return number;
+            return Some(number);
         }
     }
-    0
+    None
 }
 
 // What the number of a search tells of what it finds.
-fn told(number: usize) -> Option<Option<usize>>
-    ensures { (found : Option ℕ) → Tells number found → Known result found }
+fn told(number: Option<usize>) -> Option<Option<usize>>
+    requires { MatchOption number (Unit {0}) (λ n. n ≢ 0) }
+    ensures { (found : Option ℕ) → MatchOption number (Unit {0}) (λ n. Tells n found) → Known result found }
 {
     match number {
-        0 => None,
-        1 => Some(None),
-        _ => Some(Some(number - 2)),
+        None => None,
+        Some(1) => Some(None),
+        Some(n) => Some(Some(n - 2)),
     }
 }
 
-// What a search finds that has so much counted at a place, a brace or none; None where that is not known. The place is kept. Searches that are kept for a place further on
-// are given up, and all of them where none goes as far as the place: where searches do not overlap there is nothing to find, and nothing is read twice.
+// What a search finds that has so much counted at a place, a brace or none; None where that is not known. The place is kept. Searches that are kept
+// for a place further on are given up, and all of them where none goes as far as the place: where searches do not overlap there is nothing to find,
+// and nothing is read twice.
 pub fn recall(
     s: &[u8],
     t: &[u16; 36865],
@@ -242,27 +245,28 @@ fn free_index(f: &[usize; 259]) -> usize
         .unwrap_or(f[1] % MOST)
 }
 
-// The number that tells what a search finds.
-fn number_of(found: Option<usize>) -> usize
-    requires { number_for found < 18446744073709551616 }
-    ensures { result ≡ number_for found }
+// The number that tells what a search finds, for all places but the last two that a number can hold.
+fn number_of(found: Option<usize>) -> Option<usize>
+    ensures { MatchOption result (Unit {0}) (λ number. number ≡ number_for found) }
 {
     match found {
-        Some(place) => place + 2,
-        None => 1,
+        Some(place) => place.checked_add(2),
+        None => Some(1),
     }
 }
 
 // A search is kept with what it finds, in place of another where all indices keep one. It goes as far as `end`: nothing rests on that but time.
 pub fn keep(f: &mut [usize; 259], n: Counts, found: Option<usize>, end: usize)
-    requires room { length f.old ≡ 259 }
-    requires fits { number_for found < 18446744073709551616 }
+    requires { length f.old ≡ 259 }
     ensures { Keeps n (number_for found) f.old f.new }
 {
+    let Some(number) = number_of(found) else {
+        return;
+    };
     let i = free_index(f);
     f[1] = i + 1;
     f[258] = f[258].max(end);
-    put(f, i, n, number_of(found));
+    put(f, i, n, number);
 }
 
 // A search is looked up at the first place that is so many bytes further on and that their number divides: by then it has met others that go far.
@@ -276,9 +280,9 @@ pub fn mark_after(f: &[usize; 259], from: usize, end: usize) -> usize
     requires { from ≤ end }
     ensures { (from ≤ result) × (result ≤ end) }
 {
-    let mark = flat::ahead(from, 2 * STEP - from % STEP, end);
+    let mark = from.saturating_add(2 * STEP - from % STEP).min(end);
     let place = f[0];
-    if place < mark || flat::ahead(from, REACH, end) < place {
+    if place < mark || from.saturating_add(REACH).min(end) < place {
         mark
     } else {
         place

@@ -4,6 +4,8 @@
 ghost use Rattle.std.specs.Prelude.{◌≡◌};
 ghost use Rattle.text_rules.specs.Bytes.{before, same};
 
+// Kept: these two say in the words of the rules what `==` and `<` answer, so that no caller proves it again.
+
 // Whether two texts are the same.
 pub fn same_bytes(s: &[u8], t: &[u8]) -> bool
     ensures { result ≡ same s.now t.now }

@@ -1,5 +1,5 @@
-// The parameters of a function, counted in the text between the brackets of its list: the parts between the commas outside all inner brackets, without
-// `self`. A list is counted between its first and its last byte that are not of white space.
+// The parameters of a function, counted in the text between the brackets of its list: the parts between the commas outside all inner brackets,
+// without `self`. A list is counted between its first and its last byte that are not of white space.
 #![tactic(auto)]
 
 ghost use Rattle.std.specs.Prelude.{◌≡◌, ◌+◌, ◌≤◌, ◌<◌, length};
@@ -62,7 +62,7 @@ fn ends_in_comma(s: &[u8]) -> bool
     requires { 0 < length s.now }
     ensures { result ≡ ends_in comma s.now }
 {
-    s[s.len() - 1] == b','
+    s.ends_with(b",")
 }
 
 // The parameters of a list that begins and ends with no white space: its parts, without the one behind a last comma and without self.

@@ -89,11 +89,17 @@ pub record Window (s : List ℕ) (from many : ℕ) (m : List ℕ) : Type 0 where
   pub begins : get_or m 0 0 ≡ from
   pub places : get_or m 1 0 ≡ many
 
--- what is noted of a bracket that is closed before a place, by what the search for a body that begins there finds
-pub data Closes (found : Sought) (start : ℕ) (n : Note) : Type 0 where
-  no_body : found ≡ Nothing → n ≡ Broken → Closes found start n
-  not_known : n ≡ Closed (start - 1) → Closes found start n
-  body-there : (p : ℕ) → found ≡ Brace p → n ≡ Whole (start - 1) p → Closes found start n
+-- the numbers of a bracket that is closed before a place, by what the search for a body that begins there finds
+pub data Closes (found : Sought) (start first second : ℕ) : Type 0 where
+  no_body : found ≡ Nothing → first ≡ never → Closes found start first second
+  not_known : first ≡ start → second ≡ 0 → Closes found start first second
+  body-there : (p : ℕ) → found ≡ Brace p → first ≡ start → second ≡ p + 1 → Closes found start first second
+
+-- what is noted of it
+pub data ClosesNote (found : Sought) (start : ℕ) (n : Note) : Type 0 where
+  note_broken : found ≡ Nothing → n ≡ Broken → ClosesNote found start n
+  note_closed : n ≡ Closed (start - 1) → ClosesNote found start n
+  note_whole : (p : ℕ) → found ≡ Brace p → n ≡ Whole (start - 1) p → ClosesNote found start n
 
 -- the numbers of the first places of the part are 0
 pub record Begun (from many done : ℕ) (m : List ℕ) : Type 0 where
@@ -410,36 +416,39 @@ order-rising s owners starts from many ended o = record { rising = o.rising; ins
 -- ---- the numbers
 
 -- a bracket that is not closed
-pub told-unmet : (s : List ℕ) (at : ℕ) → sought_from s at 0 ≡ none → Told s at (first_of Broken) (second_of Broken)
-told-unmet s at e = record { there = λ z m. absurd (m refl); nowhere = λ q. no_end e; brace = λ z m. absurd (m refl) }
+pub told-unmet : (s : List ℕ) (at first second : ℕ) → sought_from s at 0 ≡ none → first ≡ never → Told s at first second
+told-unmet s at first second e n = record { there = λ z m. absurd (m n); nowhere = λ q. no_end e; brace = λ z m. absurd (m n) }
 
 -- a bracket that is closed before a place: the place, and where a body begins, or that none does
-module _ (s : List ℕ) (from many index start : ℕ) (found : Sought) (c : ClosedBefore s from many index start) (h : start < never) where
+module _ (s : List ℕ) (from many index start : ℕ) (found : Sought) (first second : ℕ) (c : ClosedBefore s from many index start) (h : start < never) where
   back : start ≡ start - 1 + 1
   back = omega (arith, c.least)
 
-  started : (first second : ℕ) → first ≡ start - 1 + 1 → (second ≢ 0 → body_at 0 0 0 start (drop start s) ≡ some (second - 1)) → Told s (from + index) first second
-  started first second e b =
+  started : first ≡ start → (second ≢ 0 → body_at 0 0 0 start (drop start s) ≡ some (second - 1)) → Told s (from + index) first second
+  started e b =
       let same : start - 1 ≡ first - 1 = omega (arith, e) in
       record {
         there = λ n m. c.partner-there ∙ ap some same;
-        nowhere = λ q. absurd (omega (arith, e, h, q, c.least));
+        nowhere = λ q. absurd (omega (arith, e, h, q));
         brace = λ n m z. subst (λ p. body_behind s p ≡ some (second - 1)) same (subst (λ p. body_at 0 0 0 p (drop p s) ≡ some (second - 1)) back (b z));
       }
 
   pub told-closed : (found ≡ Nothing → body_at 0 0 0 start (drop start s) ≡ none) → ((p : ℕ) → found ≡ Brace p → body_at 0 0 0 start (drop start s) ≡ some p)
-      → (n : Note) → Closes found start n → Told s (from + index) (first_of n) (second_of n)
-  told-closed vain there n (no_body f e) =
-      rw e
-      (record {
-        there = λ z m. absurd (m refl);
+      → Closes found start first second → Told s (from + index) first second
+  told-closed vain there (no_body f n) =
+      record {
+        there = λ z m. absurd (m n);
         nowhere = λ q. no-brace (start - 1) c.partner-there (subst (λ p. body_at 0 0 0 p (drop p s) ≡ none) back (vain f));
-        brace = λ z m. absurd (m refl);
-      })
-  told-closed vain there n (not_known e) = rw e (started (start - 1 + 1) 0 refl (λ z. absurd (z refl)))
-  told-closed vain there n (body-there p f e) =
-      let same : p ≡ p + 1 - 1 = omega arith in
-      rw e (started (start - 1 + 1) (p + 1) refl (λ z. there p f ∙ ap some same))
+        brace = λ z m. absurd (m n);
+      }
+  told-closed vain there (not_known e z) = started e (λ n. absurd (n z))
+  told-closed vain there (body-there p f e b) = let same : p ≡ second - 1 = omega (arith, b) in started e (λ n. there p f ∙ ap some same)
+
+-- what is noted of it is written down by such numbers
+pub closes_note : (found : Sought) (start : ℕ) (n : Note) → 1 ≤ start → ClosesNote found start n → Closes found start (first_of n) (second_of n)
+closes_note found start n h (note_broken f e) = rw e (no_body f refl)
+closes_note found start n h (note_closed e) = rw e (not_known (omega (arith, h)) refl)
+closes_note found start n h (note_whole p f e) = rw e (body-there p f (omega (arith, h)) refl)
 
 -- the numbers of one place are set
 pub window-set : (s m : List ℕ) (from many i first second : ℕ) → Window s from many m → i < many → Told s (from + i) first second

@@ -7,6 +7,8 @@ use Rattle.text_rules.specs.Classes.{round_close, round_open}
 use Rattle.source_rules.specs.Brackets.{partner}
 use Rattle.source_rules.specs.Finding.{body_at}
 use Rattle.windows.specs.Notes.{NotedAt}
+-- the number that tells that not both are there
+pub use Rattle.windows.specs.Notes.{never}
 use Rattle.windows.specs.Window.{Found, Noted, found-tells}
 use Rattle.windows.specs.declared.Note.{Note}
 use Rattle.windows.specs.declared.Note.TheVariants.{Broken, Closed, Nothing, Whole}
@@ -24,10 +26,6 @@ body_behind s closed = body_at 0 0 0 (closed + 1) (drop (closed + 1) s)
 pub data NoBody (s : List ℕ) (from : ℕ) : Type 0 where
   no_end : sought_from s from 0 ≡ none → NoBody s from
   no-brace : (closed : ℕ) → sought_from s from 0 ≡ some closed → body_behind s closed ≡ none → NoBody s from
-
--- the number that tells that not both are there
-abbrev pub never : ℕ
-never = 4294967295
 
 pub record Told (s : List ℕ) (at first second : ℕ) : Type 0 where
   pub there : first ≢ 0 → first ≢ never → sought_from s at 0 ≡ some (first - 1)

@@ -1,11 +1,11 @@
-// What is noted of the brackets of a part of a text: where the list of parameters that each opens ends, and where the body behind it begins. One pass over
-// the text tells them for all brackets of the part.
+// What is noted of the brackets of a part of a text: where the list of parameters that each opens ends, and where the body behind it begins. One
+// pass over the text tells them for all brackets of the part.
 #![tactic(auto)]
 
 ghost use Rattle.std.specs.Prelude.{◌≡◌, ◌+◌, ◌-◌, ◌≤◌, ◌<◌, length};
 ghost use Rattle.chunks.specs.Table.{Summed};
 ghost use Rattle.bodies.specs.Bodies.{Finds};
-ghost use Rattle.parts.specs.Filling.{Begun, Closes, Order, Passed, Unmet, Window, Within, closed, opened};
+ghost use Rattle.parts.specs.Filling.{Begun, ClosesNote, Order, Passed, Unmet, Window, Within, closed, opened};
 ghost use Rattle.parts.specs.Told.{Lent};
 
 use bodies::Sought;
@@ -39,9 +39,9 @@ impl Part<'_> {
     }
 }
 
-// How far the pass has come. The brackets that wait, the last one on top; how many from behind the part are open inside them; and those that are closed, in
-// this order, with the places behind their partners. Kept as arrays with their heights: a search takes no memory from the heap. The places stand in an
-// array of their own, since searches for bodies begin there.
+// How far the pass has come. The brackets that wait, the last one on top; how many from behind the part are open inside them; and those that are
+// closed, in this order, with the places behind their partners. Kept as arrays with their heights: a search takes no memory from the heap. The
+// places stand in an array of their own, since searches for bodies begin there.
 #[derive(Drop)]
 struct Pass {
     at: usize,
@@ -180,7 +180,8 @@ impl Pass {
         }
     }
 
-    // The pass on from the last byte of the part. It ends where no bracket waits any more, and those that wait at the end of the text have no partner.
+    // The pass on from the last byte of the part. It ends where no bracket waits any more, and those that wait at the end of the text have no
+    // partner.
     fn behind(&mut self, p: &Part)
         requires { Passed p.now.text.now p.now.from p.now.many self.old }
         ensures few { self.new.high + self.new.ended ≤ p.now.many }
@@ -226,7 +227,7 @@ impl Pass {
 // What is noted of a bracket that is closed before a place, by what the search for a body that begins there finds.
 fn closed_note(found: Sought, start: u32) -> Note
     requires { 1 ≤ start }
-    ensures { Closes found start result }
+    ensures { ClosesNote found start result }
 {
     let partner = start as usize - 1;
     match found {

@@ -1,26 +1,19 @@
-// Bytes of a text are passed, those that are neither of two, or any, and the lines that end among them are counted. Sixteen bytes are asked at once
+// Bytes of a text are passed, those that pass a test, or any, and the lines that end among them are counted. Sixteen bytes are asked at once
 // where they can be.
 #![tactic(auto)]
 
 ghost use Rattle.std.specs.Prelude.{◌≡◌, true, ◌+◌, ◌≤◌, ◌<◌, length, get_or};
 ghost use Rattle.text_rules.specs.Classes.{lf};
 ghost use Rattle.text_rules.specs.Search.{count_after};
-ghost use Rattle.blocks.specs.Blocks.{Every, count_from};
-ghost use Rattle.passing.specs.Passing.{Any, Neither, Passed};
+ghost use Rattle.blocks.specs.Blocks.{count_from};
+ghost use Rattle.passing.specs.Passing.{Any, Passed};
 
 // A place, and its line.
+// Kept: that no line is further than its place stands in contracts. In the type it would stand in each law that names a place and a line.
 #[derive(Clone, Copy)]
 pub struct Spot {
     pub at: usize,
     pub line: usize,
-}
-
-// Whether no byte of the block at a place is one of two, which may be the same.
-fn lacks_both(s: &[u8], at: usize, x: u8, y: u8) -> bool
-    requires { at + 16 ≤ length s.now }
-    ensures { result ≡ true → Every (Neither x y) s.now at 16 }
-{
-    blocks::lacks(s, at, x) && (x == y || blocks::lacks(s, at, y))
 }
 
 impl Spot {
@@ -48,18 +41,16 @@ impl Spot {
         }
     }
 
-    // Past whole blocks in which neither of two bytes stands.
-    fn pass_blocks(self, s: &[u8], to: usize, x: u8, y: u8) -> Spot
-        requires { (to ≤ length s.now) × (self.line ≤ self.at + 1) }
-        ensures { Passed (Neither x y) s.now self.at self.line to result }
+    // Past whole blocks each byte of which passes a test.
+    fn pass_blocks<F: Fn(u8) -> bool>(self, s: &[u8], to: usize, test: F) -> Spot
+        requires inside { to ≤ length s.now }
+        requires line { self.line ≤ self.at + 1 }
+        requires callable { F.IsAlwaysCallable test }
+        ensures { Passed (λ b. F.post test b true) s.now self.at self.line to result }
     {
         let mut spot = self;
-        // Kept: a step is a block, the last of which may not end at `to`, and the place may be behind `to`: neither a range nor the chunks of a part say so.
-        while spot.at < to {
-            if to - spot.at < blocks::WIDTH {
-                return spot;
-            }
-            if !lacks_both(s, spot.at, x, y) {
+        for at in (self.at..to).step_by(blocks::WIDTH) {
+            if to - at < blocks::WIDTH || !blocks::passes(s, at, &test) {
                 return spot;
             }
             spot = spot.behind_block(s);
@@ -67,15 +58,16 @@ impl Spot {
         spot
     }
 
-    // Past bytes that are neither of two.
-    fn pass_bytes(self, s: &[u8], to: usize, x: u8, y: u8) -> Spot
-        requires { (to ≤ length s.now) × (self.line ≤ self.at + 1) }
-        ensures { Passed (Neither x y) s.now self.at self.line to result }
+    // Past bytes that pass a test.
+    fn pass_bytes<F: Fn(u8) -> bool>(self, s: &[u8], to: usize, test: F) -> Spot
+        requires inside { to ≤ length s.now }
+        requires line { self.line ≤ self.at + 1 }
+        requires callable { F.IsAlwaysCallable test }
+        ensures { Passed (λ b. F.post test b true) s.now self.at self.line to result }
     {
         let mut spot = self;
         for at in self.at..to {
-            let b = s[at];
-            if b == x || b == y {
+            if !test(s[at]) {
                 return spot;
             }
             spot = spot.behind_byte(s);
@@ -83,13 +75,15 @@ impl Spot {
         spot
     }
 
-    // The next byte that is one of two, or the given place. Blocks and bytes have a loop each: in one loop for both the compiler reads the first byte
-    // of a block by itself, and no longer the sixteen at once. The block at which the first loop ends has one of the bytes, so the second is short.
-    pub fn pass_others(self, s: &[u8], to: usize, x: u8, y: u8) -> Spot
-        requires { (to ≤ length s.now) × (self.line ≤ self.at + 1) }
-        ensures { Passed (Neither x y) s.now self.at self.line to result }
+    // The next byte that fails a test, or the given place. Blocks and bytes have a loop each: in one loop for both the compiler reads the first byte
+    // of a block by itself, and no longer the sixteen at once. The block at which the first loop ends has such a byte, so the second is short.
+    pub fn pass_while<F: Fn(u8) -> bool>(self, s: &[u8], to: usize, test: F) -> Spot
+        requires inside { to ≤ length s.now }
+        requires line { self.line ≤ self.at + 1 }
+        requires callable { F.IsAlwaysCallable test }
+        ensures { Passed (λ b. F.post test b true) s.now self.at self.line to result }
     {
-        self.pass_blocks(s, to, x, y).pass_bytes(s, to, x, y)
+        self.pass_blocks(s, to, &test).pass_bytes(s, to, &test)
     }
 
     // A place further on, with the lines counted.
@@ -97,15 +91,6 @@ impl Spot {
         requires { (to ≤ length s.now) × (self.line ≤ self.at + 1) }
         ensures { Passed Any s.now self.at self.line to result }
     {
-        let mut spot = self;
-        // Kept: a step is a block or a byte, so no `for` counts the steps.
-        while spot.at < to {
-            spot = if blocks::WIDTH <= to - spot.at {
-                spot.behind_block(s)
-            } else {
-                spot.behind_byte(s)
-            };
-        }
-        spot
+        self.pass_while(s, to, |_| true)
     }
 }

@@ -2,17 +2,21 @@
 // since only a missing baseline is an empty one.
 #![tactic(auto)]
 
-ghost use Rattle.std.specs.Prelude.{◌+◌, ◌≤◌, [], ◌∷◌, ◌++◌, length};
+ghost use Rattle.std.specs.Prelude.{ℕ, ◌≡◌, ◌≤◌, List, [], ◌∷◌, ◌++◌, length, Ok, IfOk, IfSome};
+ghost use Rattle.std.specs.Borrow.{MutBor};
+ghost use Rattle.gate_rules.specs.Programs.{lent as zeros};
 ghost use Rattle.text_rules.specs.Decimal.{decimal};
 ghost use Rattle.io.specs.Counts.{IsPrefixLen};
 ghost use Rattle.programs.specs.Lines.{Starts};
 
+use arrayvec::ArrayString;
+use listing::Writer;
 use std::fmt::Write as _;
 use std::fs::{OpenFile, OpenOptions, Permissions};
 use std::io::{ErrorKind, Read, Write};
 use std::os::unix::fs::{OpenOptionsExt, PermissionsExt};
 use std::rt::Files;
-use std::{fmt, fs, io, str};
+use std::{fs, io};
 
 // The baseline's file.
 const BASELINE: &str = "tools/complexity-baseline.tsv";
@@ -20,59 +24,17 @@ const BASELINE: &str = "tools/complexity-baseline.tsv";
 // How many names are tried for the new file beside it.
 const NAMES: u32 = 1000000;
 
-// What was read: the first bytes of a buffer, none where it failed.
-#[derive(Drop)]
-pub struct Reading {
-    pub count: usize,
-    pub failed: bool,
-}
-
 // The bytes that a line's words may have.
 const ROOM: usize = 320;
 
 // Words that are put together, without an allocation.
-#[derive(Drop)]
-struct Words {
-    bytes: [u8; ROOM],
-    len: usize,
-}
-
-impl Words {
-    fn new() -> Words {
-        Words {
-            bytes: [0; ROOM],
-            len: 0,
-        }
-    }
-
-    fn text(&self) -> &str {
-        let all = &self.bytes[..];
-        match all.get(..self.len) {
-            Some(bytes) => str::from_utf8(bytes).unwrap_or(""),
-            None => "",
-        }
-    }
-}
-
-impl fmt::Write for Words {
-    fn write_str(&mut self, s: &str) -> fmt::Result {
-        for b in s.as_bytes() {
-            let len = self.len;
-            if len >= ROOM {
-                return Err(fmt::Error);
-            }
-            self.bytes[len] = *b;
-            self.len = len + 1;
-        }
-        Ok(())
-    }
-}
+type Words = ArrayString<ROOM>;
 
 // Writes a line to standard error: what failed, a colon and the error's text, without the number that the system has for it.
 fn fail(rt: &impl Eprint, what: &str, error: io::Error) {
     let mut words = Words::new();
     let _ = write!(words, "{error}");
-    let text = words.text();
+    let text = words.as_str();
     let why = match text.split_once(" (os error ") {
         Some((why, _)) => why,
         None => text,
@@ -80,145 +42,78 @@ fn fail(rt: &impl Eprint, what: &str, error: io::Error) {
     let _ = eprintln!(rt; "{what}: {why}");
 }
 
-// One read into the buffer, from a place on. Where this fails it says why.
-fn read_more<R: Read>(
-    rt: &impl Eprint,
-    input: &mut R,
-    what: &str,
-    buf: &mut [u8],
-    at: usize,
-) -> Reading
-    requires { at ≤ length buf.old }
-    ensures { at + result.count ≤ length buf.new }
+// What came of trying. Where it failed this says why.
+fn said<T: Drop>(rt: &impl Eprint, what: &str, tried: io::Result<T>) -> Option<T>
+    ensures { IfSome result (λ value. tried ≡ Ok value) }
 {
-    match input.read(&mut buf[at..]) {
-        Ok(count) => Reading {
-            count,
-            failed: false,
-        },
+    match tried {
+        Ok(value) => Some(value),
         Err(error) => {
             fail(rt, what, error);
-            Reading {
-                count: 0,
-                failed: true,
-            }
+            None
         }
     }
 }
 
-// Reads until the input ends or the buffer is full. Where this fails it says why.
-fn read<R: Read>(rt: &impl Eprint, input: &mut R, what: &str, buf: &mut [u8]) -> Reading
-    ensures { IsPrefixLen result.count buf.new }
+// Reads until the input ends or the buffer is full, and tells how many bytes were read.
+fn read<R: Read>(input: &mut R, buf: &mut [u8]) -> io::Result<usize>
+    ensures { IfOk result (λ count. IsPrefixLen count buf.new) }
 {
     let mut at: usize = 0;
+    // Kept: a read takes any number of bytes, so that no range counts them.
     while at < buf.len() {
-        let more = read_more(rt, input, what, buf, at);
-        if more.failed {
-            return Reading {
-                count: 0,
-                failed: true,
-            };
-        }
-        if more.count == 0 {
+        let more = input.read(&mut buf[at..])?;
+        if more == 0 {
             break;
         }
-        at += more.count;
+        at += more;
     }
-    Reading {
-        count: at,
-        failed: false,
-    }
+    Ok(at)
 }
 
-// The tree, from standard input. Where this fails it says why.
-pub fn read_tree<R: Input + Eprint>(rt: &R, buf: &mut [u8]) -> Reading
-    ensures { IsPrefixLen result.count buf.new }
+// The bytes of the tree, from standard input. Where this fails it says why.
+pub fn read_tree<R: Input + Eprint>(rt: &R, buf: &mut [u8]) -> Option<usize>
+    ensures { IfSome result (λ count. IsPrefixLen count buf.new) }
 {
     let mut input = rt.reader();
-    read(
+    said(
         rt,
-        &mut input,
         "cannot read the tree from standard input",
-        buf,
+        read(&mut input, buf),
     )
 }
 
-// Says why the baseline's file cannot be read.
-fn say_unread(rt: &impl Eprint, error: io::Error) {
-    fail(rt, "cannot read tools/complexity-baseline.tsv", error);
-}
-
-// The baseline, from its open file. Where this fails it says why.
-fn read_open<R: Read>(rt: &impl Eprint, file: &mut R, buf: &mut [u8]) -> Reading
-    ensures { IsPrefixLen result.count buf.new }
-{
-    read(rt, file, "cannot read tools/complexity-baseline.tsv", buf)
-}
-
-// The baseline, from its file. A missing file is an empty baseline; where it cannot be read this says why.
-pub fn read_baseline<R: Files + Eprint>(rt: &R, buf: &mut [u8]) -> Reading
-    ensures { IsPrefixLen result.count buf.new }
+// The bytes of the baseline's file; a missing file is an empty baseline.
+fn read_file<R: Files>(rt: &R, buf: &mut [u8]) -> io::Result<usize>
+    ensures { IfOk result (λ count. IsPrefixLen count buf.new) }
 {
     match fs::open(rt, BASELINE) {
-        Ok(mut file) => read_open(rt, &mut file, buf),
-        Err(error) => {
-            let failed = error.kind() != ErrorKind::NotFound;
-            if failed {
-                say_unread(rt, error);
-            }
-            Reading { count: 0, failed }
-        }
+        Ok(mut file) => read(&mut file, buf),
+        Err(error) if error.kind() == ErrorKind::NotFound => Ok(0),
+        Err(error) => Err(error),
     }
 }
 
-// Says why the baseline's file cannot be written.
-fn say_unwritten(rt: &impl Eprint, error: io::Error) {
-    fail(rt, "could not write tools/complexity-baseline.tsv", error);
+// The bytes of the baseline, none where it has no file. Where this fails it says why.
+pub fn read_baseline<R: Files + Eprint>(rt: &R, buf: &mut [u8]) -> Option<usize>
+    ensures { IfSome result (λ count. IsPrefixLen count buf.new) }
+{
+    said(
+        rt,
+        "cannot read tools/complexity-baseline.tsv",
+        read_file(rt, buf),
+    )
 }
 
-// Writes an open file that others may read too, and waits until its bytes have reached the device.
-fn put_bytes<F: Write + OpenFile>(file: &mut F, bytes: &[u8]) -> io::Result<()> {
-    file.write_all(bytes)?;
-    file.set_permissions(Permissions::from_mode(0o644))?;
-    file.sync_all()
-}
-
-// Writes the new file. Where this fails it says why.
-fn fill<F: Write + OpenFile>(rt: &impl Eprint, file: &mut F, bytes: &[u8]) -> bool {
-    match put_bytes(file, bytes) {
-        Ok(()) => true,
-        Err(error) => {
-            say_unwritten(rt, error);
-            false
-        }
-    }
-}
-
-// Writes the new file, closes it, and gives it the baseline's name.
-fn fill_and_rename<R: Files + Eprint>(rt: &R, mut file: R::File, bytes: &[u8], name: &str) -> bool {
-    let filled = fill(rt, &mut file, bytes);
-    drop(file);
-    if !filled {
-        return false;
-    }
-    match fs::rename(rt, name, BASELINE) {
-        Ok(()) => true,
-        Err(error) => {
-            say_unwritten(rt, error);
-            false
-        }
-    }
-}
-
-// Makes a new file beside the baseline's, which nobody else may read yet, and puts its name into the words. A name that another file has is not taken.
-fn create_beside<R: Files>(rt: &R, name: &mut Words) -> io::Result<R::File> {
+// Makes a new file beside the baseline's, which nobody else may read yet, and tells its name. A name that another file has is not taken.
+fn create_beside<R: Files>(rt: &R) -> io::Result<(R::File, Words)> {
     let mut how = OpenOptions::new();
     how.write(true).create_new(true).mode(0o600);
     for number in 0..NAMES {
-        *name = Words::new();
+        let mut name = Words::new();
         write!(name, "tools/complexity-baseline.tsv.{number:06}")?;
-        match how.open(rt, name.text()) {
-            Ok(file) => return Ok(file),
+        match how.open(rt, name.as_str()) {
+            Ok(file) => return Ok((file, name)),
             Err(error) if error.kind() == ErrorKind::AlreadyExists => {}
             Err(error) => return Err(error),
         }
@@ -226,37 +121,61 @@ fn create_beside<R: Files>(rt: &R, name: &mut Words) -> io::Result<R::File> {
     Err(io::Error::from(ErrorKind::AlreadyExists))
 }
 
-// Writes the baseline's file: a new file beside it takes its name once it is whole, so that the old one stands until then. Where this fails it says why
-// and removes the new file.
-pub fn write_baseline<R: Files + Eprint>(rt: &R, bytes: &[u8]) -> bool {
-    let mut name = Words::new();
-    let file = match create_beside(rt, &mut name) {
-        Ok(file) => file,
-        Err(error) => {
-            say_unwritten(rt, error);
-            return false;
-        }
-    };
-    let done = fill_and_rename(rt, file, bytes, name.text());
-    if !done {
-        let _ = fs::remove_file(rt, name.text());
+// Writes a new file that others may read too, waits until its bytes have reached the device, and closes it.
+fn fill<F: Write + OpenFile + Drop>(mut file: F, bytes: &[u8]) -> io::Result<()> {
+    file.write_all(bytes)?;
+    file.set_permissions(Permissions::from_mode(0o644))?;
+    file.sync_all()
+}
+
+// A new file beside the baseline's takes its name once it is whole, so that the old one stands until then. Where this fails the new file is removed.
+fn replace<R: Files>(rt: &R, bytes: &[u8]) -> io::Result<()> {
+    let (file, name) = create_beside(rt)?;
+    let replaced = fill(file, bytes).and_then(|()| fs::rename(rt, name.as_str(), BASELINE));
+    if replaced.is_err() {
+        let _ = fs::remove_file(rt, name.as_str());
     }
-    done
+    replaced
+}
+
+// Writes the baseline's file, and tells whether it stands. Where this fails it says why.
+pub fn write_baseline<R: Files + Eprint>(rt: &R, bytes: &[u8]) -> bool {
+    said(
+        rt,
+        "could not write tools/complexity-baseline.tsv",
+        replace(rt, bytes),
+    )
+    .is_some()
 }
 
 // Prints. Where this fails it says why.
 pub fn print(rt: &(impl Print + Eprint), bytes: &[u8]) {
-    match rt.write_all(bytes) {
-        Ok(()) => {}
-        Err(error) => fail(rt, "cannot print", error),
-    }
+    let _ = said(rt, "cannot print", rt.write_all(bytes));
+}
+
+// Prints what a call makes at the start of an output. It is lent the bytes for its work, for its records and for that output, all of them 0.
+pub fn print_made<R: Print + Eprint, F: FnOnce(&mut [u8], &mut [u8], &mut [u8]) -> usize>(
+    rt: &R,
+    make: F,
+)
+    requires lends { (w l o : MutBor (List ℕ)) → w.now ≡ zeros → l.now ≡ zeros → o.now ≡ zeros → F.pre make w l o }
+    requires made { (w l o w' l' o' : MutBor (List ℕ)) (n : ℕ) → F.post make w l o n w' l' o' → IsPrefixLen n o'.now }
+{
+    let mut work = [0u8; 65536];
+    let mut lent = [0u8; 65536];
+    let mut output = [0u8; 65536];
+    let n = make(&mut work, &mut lent, &mut output);
+    print(rt, &output[..n]);
 }
 
 // A refusal's number and LF, at the start of the output.
+// Kept: the number is any number; a refusal in its place would be a narrower type.
 pub fn put_refusal(output: &mut [u8], number: u32) -> usize
     requires { 11 ≤ length output.old }
     ensures { Starts result output.new (decimal number ++ 10 ∷ []) }
 {
-    let end = listing::put_number(output, 0, number as u64);
-    listing::put_text(output, end, b"\n")
+    let mut line = Writer { out: output, at: 0 };
+    line.number(u64::from(number));
+    line.text(b"\n");
+    line.at
 }

@@ -1,2 +1,3 @@
 -- The laws that the functions cite.
 mod Ahead
+pub mod Turns

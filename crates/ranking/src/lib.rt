@@ -1,197 +1,237 @@
-// The functions over the limits, one after another in an order: a tournament of their numbers, so that each next one costs only the matches on one path.
-// With n functions the node n + k is the leaf of function k, and node i, from 1 to n - 1, holds the winner of 2 i and 2 i + 1. n stands for none.
+// The functions over the limits, one after another in an order: a tournament of their numbers, so that each next one costs only the matches on one
+// path.
+// With n functions the node n + k is the leaf of function k, and node i, from 1 to n - 1, holds the winner of 2 i and 2 i + 1.
+// Kept: in a node the number n stands for none, since an option of a number takes twice the two bytes, and the nodes are an array of fixed length.
 #![tactic(auto)]
 
-ghost use Rattle.std.specs.Prelude.{◌≡◌, ℕ, ◌+◌, ◌*◌, ◌≤◌, ◌<◌, length, get_or};
+ghost use Rattle.std.specs.Prelude.{◌≡◌, ℕ, ◌+◌, ◌*◌, ◌≤◌, ◌<◌, List, [], ◌∷◌, length, get_or, MatchOption};
 ghost use Rattle.text_rules.specs.Bytes.{same};
 ghost use Rattle.gate_rules.specs.Gate.{gate};
-ghost use Rattle.gate_rules.specs.Report.{worse};
 ghost use Rattle.gate_rules.specs.Scan.{functions_of};
-ghost use Rattle.gate_rules.specs.Update.{row_before};
-ghost use Rattle.functions.specs.Shown.{Lies, Stand, limits_of, shown};
-ghost use Rattle.ranking.specs.Ranks.{Entered, Next, Played, PlayedBut, Ranked, Settled, Wins, decided, goes_before};
+ghost use Rattle.functions.specs.Shown.{limits_of, shown};
+ghost use Rattle.ranking.specs.Ranks.{Entered, Played, PlayedBut, Settled, Wins, goes_before, listed};
 
-use functions::{Function, Limits};
+use functions::{Function, Functions, Limits};
+use std::marker::Model;
 
-// The orders: update's rows go by path and then by name, the report's by cyclomatic falling and then by path. Ties go by scan order.
-#[derive(Clone, Copy)]
-pub enum Order {
-    Keys,
-    Worst,
+// An order of functions: which of two goes first.
+pub trait Rank {
+    ghost use Rattle.std.specs.Prelude.{◌≡◌, Bool};
+    ghost use Rattle.text_rules.specs.ByteOrder.{Orders};
+    ghost use Rattle.gate_rules.specs.Functions.{Fun};
+    ghost use Rattle.functions.specs.Shown.{shown};
+    ghost use Rattle.ranking.specs.Ranks.{decided};
+
+    ghost less: { Fun → Fun → Bool };
+
+    ghost orders: { Orders less };
+
+    // f goes before g. Where neither is less, the earlier one does.
+    fn first(&self, f: Function, g: Function, earlier: bool) -> bool
+        ensures { result ≡ decided less (shown f.entry) (shown g.entry) earlier };
 }
 
-// Whether two functions have the same path. Those of one file have the same bounds, and no byte is compared.
-fn same_path(tree: &[u8], f: Function, g: Function) -> bool
-    requires { Lies tree.now f × Lies tree.now g }
-    ensures { result ≡ same (shown tree.now f).path (shown tree.now g).path }
+// Whether two functions have the same path.
+fn same_path(f: Function, g: Function) -> bool
+    ensures { result ≡ same f.entry.path.now g.entry.path.now }
 {
-    if f.path_at == g.path_at {
-        if f.path_end == g.path_end {
-            return true;
+    order::same_bytes(f.path, g.path)
+}
+
+// Update's order: by path, and where the paths are the same by name. Where these are the same too the earlier one goes first.
+#[derive(Clone, Copy)]
+pub struct ByKey;
+
+impl Rank for ByKey {
+    ghost use Rattle.gate_rules.specs.Update.{row_before};
+    ghost use Rattle.gate_rules.proofs.RowOrders.{row_orders};
+
+    ghost less = { row_before };
+
+    ghost orders = { row_orders };
+
+    fn first(&self, f: Function, g: Function, earlier: bool) -> bool {
+        if !same_path(f, g) {
+            return order::before(f.path, g.path);
+        }
+        if !order::same_bytes(f.name, g.name) {
+            return order::before(f.name, g.name);
+        }
+        earlier
+    }
+}
+
+// The report's order: by cyclomatic falling, and where it is the same by path. Where that is the same too the earlier one goes first.
+#[derive(Clone, Copy)]
+pub struct Worst;
+
+impl Rank for Worst {
+    ghost use Rattle.gate_rules.specs.Report.{worse};
+    ghost use Rattle.gate_rules.proofs.RowOrders.{worse_orders};
+
+    ghost less = { worse };
+
+    ghost orders = { worse_orders };
+
+    fn first(&self, f: Function, g: Function, earlier: bool) -> bool {
+        if f.cyclomatic != g.cyclomatic {
+            return g.cyclomatic < f.cyclomatic;
+        }
+        if !same_path(f, g) {
+            return order::before(f.path, g.path);
+        }
+        earlier
+    }
+}
+
+// A tournament of the functions: who wins its matches.
+#[derive(Drop)]
+struct Tournament<'a, R: Rank> {
+    rank: R,
+    functions: Functions<'a>,
+}
+
+impl<'a, R: Rank> Tournament<'a, R> {
+    // The function j goes before the function k.
+    fn goes_first(&self, j: usize, k: usize) -> bool
+        requires { (j < self.now.functions.count) × (k < self.now.functions.count) }
+        ensures { result ≡ goes_before R.less R.orders self.now.functions.tree.now j k }
+    {
+        let f = self.functions.get(j);
+        let g = self.functions.get(k);
+        self.rank.first(f, g, j < k)
+    }
+
+    // The winner of two: who is there, and of two that are there the one that goes first.
+    fn winner(&self, l: usize, r: usize) -> usize
+        requires { (l ≤ self.now.functions.count) × (r ≤ self.now.functions.count) }
+        ensures { (result ≤ self.now.functions.count) × Wins R.less R.orders self.now.functions.tree.now result l r }
+    {
+        let n = self.functions.count;
+        if l == n {
+            return r;
+        }
+        if r == n {
+            return l;
+        }
+        if self.goes_first(r, l) {
+            return r;
+        }
+        l
+    }
+
+    // The match of the node i.
+    fn play(&self, nodes: &mut [u16; 16384], i: usize)
+        requires { (2 * self.now.functions.count ≤ length nodes.old)
+            × (1 ≤ i)
+            × (i < self.now.functions.count)
+            × (get_or nodes.old (2 * i) 0 ≤ self.now.functions.count)
+            × (get_or nodes.old (2 * i + 1) 0 ≤ self.now.functions.count) }
+        ensures { Played R.less R.orders self.now.functions.tree.now i nodes.old nodes.new }
+    {
+        let l = usize::from(nodes[2 * i]);
+        let r = usize::from(nodes[2 * i + 1]);
+        nodes[i] = self.winner(l, r) as u16;
+    }
+
+    // All matches, from the leaves to the node 1.
+    fn play_all(&self, nodes: &mut [u16; 16384])
+        requires { (2 * self.now.functions.count ≤ length nodes.old)
+            × ((j : ℕ) → self.now.functions.count ≤ j → j < 2 * self.now.functions.count → get_or nodes.old j 0 ≤ self.now.functions.count) }
+        ensures { Settled R.less R.orders self.now.functions.tree.now nodes.new
+            × ((j : ℕ) → self.now.functions.count ≤ j → get_or nodes.new j 0 ≡ get_or nodes.old j 0) }
+    {
+        for i in (1..self.functions.count).rev() {
+            self.play(nodes, i);
         }
     }
-    order::same_bytes(functions::path_of(tree, f), functions::path_of(tree, g))
-}
 
-// A function goes before another by path, and where the paths are the same by name. Where these are the same too it is the earlier one.
-fn first_by_keys(tree: &[u8], f: Function, g: Function, earlier: bool) -> bool
-    requires { Lies tree.now f × Lies tree.now g }
-    ensures { result ≡ decided row_before (shown tree.now f) (shown tree.now g) earlier }
-{
-    if !same_path(tree, f, g) {
-        return order::before(functions::path_of(tree, f), functions::path_of(tree, g));
+    // The matches of a path: that of the node `from`, and of those above it.
+    fn play_path(&self, nodes: &mut [u16; 16384], from: usize)
+        requires { (from < self.now.functions.count) × PlayedBut R.less R.orders self.now.functions.tree.now from nodes.old }
+        ensures { Settled R.less R.orders self.now.functions.tree.now nodes.new
+            × ((j : ℕ) → self.now.functions.count ≤ j → get_or nodes.new j 0 ≡ get_or nodes.old j 0) }
+    {
+        // Kept: each turn goes to half the number, which no range counts.
+        let mut i = from;
+        while 0 < i {
+            self.play(nodes, i);
+            i /= 2;
+        }
     }
-    if !order::same_bytes(functions::name_of(tree, f), functions::name_of(tree, g)) {
-        return order::before(functions::name_of(tree, f), functions::name_of(tree, g));
-    }
-    earlier
-}
-
-// A function goes before another by cyclomatic falling, and where it is the same by path. Where that is the same too it is the earlier one.
-fn first_by_worst(tree: &[u8], f: Function, g: Function, earlier: bool) -> bool
-    requires { Lies tree.now f × Lies tree.now g }
-    ensures { result ≡ decided worse (shown tree.now f) (shown tree.now g) earlier }
-{
-    if f.cyclomatic != g.cyclomatic {
-        return g.cyclomatic < f.cyclomatic;
-    }
-    if !same_path(tree, f, g) {
-        return order::before(functions::path_of(tree, f), functions::path_of(tree, g));
-    }
-    earlier
-}
-
-// The function j goes before the function k.
-fn goes_first(order: Order, tree: &[u8], lent: &[u8], j: usize, k: usize) -> bool
-    requires { Stand tree.now lent.now × (j < length (functions_of gate tree.now)) × (k < length (functions_of gate tree.now)) }
-    ensures { result ≡ goes_before order tree.now j k }
-{
-    let f = functions::function_at(tree, lent, j);
-    let g = functions::function_at(tree, lent, k);
-    match order {
-        Order::Keys => first_by_keys(tree, f, g, j < k),
-        Order::Worst => first_by_worst(tree, f, g, j < k),
-    }
-}
-
-// The winner of two: who is there, and of two that are there the one that goes first.
-fn winner(order: Order, tree: &[u8], lent: &[u8], n: usize, l: usize, r: usize) -> usize
-    requires { Stand tree.now lent.now × (n ≡ length (functions_of gate tree.now)) × (l ≤ n) × (r ≤ n) }
-    ensures { (result ≤ n) × Wins order tree.now result l r }
-{
-    if l == n {
-        return r;
-    }
-    if r == n {
-        return l;
-    }
-    if goes_first(order, tree, lent, r, l) {
-        return r;
-    }
-    l
-}
-
-// The match of the node i.
-fn play(order: Order, tree: &[u8], lent: &[u8], n: usize, nodes: &mut [u16; 16384], i: usize)
-    requires { Stand tree.now lent.now
-        × (n ≡ length (functions_of gate tree.now))
-        × (2 * n ≤ length nodes.old)
-        × (1 ≤ i)
-        × (i < n)
-        × (get_or nodes.old (2 * i) 0 ≤ n)
-        × (get_or nodes.old (2 * i + 1) 0 ≤ n) }
-    ensures { Played order tree.now i nodes.old nodes.new }
-{
-    let l = nodes[2 * i] as usize;
-    let r = nodes[2 * i + 1] as usize;
-    let w = winner(order, tree, lent, n, l, r);
-    nodes[i] = w as u16;
 }
 
 // The leaves: each function over the limits.
-fn set_leaves(tree: &[u8], lent: &[u8], n: usize, limits: Limits, nodes: &mut [u16; 16384])
-    requires { Stand tree.now lent.now × (n ≡ length (functions_of gate tree.now)) × (2 * n ≤ length nodes.old) }
-    ensures { (length nodes.new ≡ length nodes.old) × Entered (limits_of limits) tree.now n nodes.new }
+fn set_leaves(functions: Functions, limits: Limits, nodes: &mut [u16; 16384])
+    requires { 2 * functions.count ≤ length nodes.old }
+    ensures { (length nodes.new ≡ length nodes.old)
+        × Entered (limits_of limits) functions.entry.tree.now functions.entry.count nodes.new }
 {
+    let n = functions.count;
     for k in 0..n {
-        let f = functions::function_at(tree, lent, k);
-        let mut leaf = n;
-        if functions::is_over(limits, f) {
-            leaf = k;
-        }
+        let leaf = if functions.get(k).is_over(limits) {
+            k
+        } else {
+            n
+        };
         nodes[n + k] = leaf as u16;
     }
 }
 
-// All matches, from the leaves to the node 1.
-fn play_all(order: Order, tree: &[u8], lent: &[u8], n: usize, nodes: &mut [u16; 16384])
-    requires { Stand tree.now lent.now
-        × (n ≡ length (functions_of gate tree.now))
-        × (2 * n ≤ length nodes.old)
-        × ((j : ℕ) → n ≤ j → j < 2 * n → get_or nodes.old j 0 ≤ n) }
-    ensures { Settled order tree.now nodes.new
-        × ((j : ℕ) → n ≤ j → get_or nodes.new j 0 ≡ get_or nodes.old j 0) }
-{
-    let mut i = n;
-    while 1 < i {
-        i -= 1;
-        play(order, tree, lent, n, nodes, i);
-    }
-}
-
-// The matches of a path: that of the node `from`, and of those above it.
-fn play_path(
-    order: Order,
-    tree: &[u8],
-    lent: &[u8],
-    n: usize,
-    nodes: &mut [u16; 16384],
-    from: usize,
-)
-    requires { Stand tree.now lent.now
-        × (n ≡ length (functions_of gate tree.now))
-        × (from < n)
-        × PlayedBut order tree.now from nodes.old }
-    ensures { Settled order tree.now nodes.new
-        × ((j : ℕ) → n ≤ j → get_or nodes.new j 0 ≡ get_or nodes.old j 0) }
-{
-    let mut i = from;
-    while 0 < i {
-        play(order, tree, lent, n, nodes, i);
-        i /= 2;
-    }
-}
-
-// The functions over the limits are ranked, and none is taken yet.
-pub fn rank(
-    order: Order,
-    tree: &[u8],
-    lent: &[u8],
-    n: usize,
+// The functions over the limits, in an order, that are still to take. Clauses see them as a list.
+#[derive(Drop)]
+pub struct Ranking<'a, R: Rank> {
+    tournament: Tournament<'a, R>,
     limits: Limits,
-    nodes: &mut [u16; 16384],
-)
-    requires { Stand tree.now lent.now × (n ≡ length (functions_of gate tree.now)) × (2 * n ≤ length nodes.old) }
-    ensures { Settled order tree.now nodes.new × Ranked order (limits_of limits) tree.now n nodes.new }
-{
-    set_leaves(tree, lent, n, limits, nodes);
-    play_all(order, tree, lent, n, nodes);
+    nodes: [u16; 16384],
+    // how many are taken
+    taken: usize,
 }
 
-// The next function, which is taken; `n` where there is none.
-pub fn next(order: Order, tree: &[u8], lent: &[u8], n: usize, nodes: &mut [u16; 16384]) -> usize
-    requires { Stand tree.now lent.now
-        × (n ≡ length (functions_of gate tree.now))
-        × (1 ≤ n)
-        × Settled order tree.now nodes.old }
-    ensures { Next order tree.now result nodes.old nodes.new }
-{
-    let first = nodes[1] as usize;
-    if first == n {
-        return n;
+impl<'a, R: Rank> Model for Ranking<'a, R> {
+    ghost use Rattle.std.specs.Prelude.{List};
+    ghost use Rattle.gate_rules.specs.Functions.{Fun};
+
+    ghost Value = { List Fun };
+
+    ghost use Rattle.ranking.specs.Taking.{Taking, to_take};
+
+    ghost view = { to_take R.less R.orders };
+
+    ghost invariant = { Taking R.less R.orders };
+}
+
+impl<'a, R: Rank> Ranking<'a, R> {
+    // None is taken yet.
+    pub fn new(rank: R, functions: Functions<'a>, limits: Limits) -> Ranking<'a, R>
+        ensures { result ≡ listed R.less R.orders (limits_of limits) (functions_of gate functions.entry.tree.now) }
+    {
+        let mut nodes = [0u16; 16384];
+        set_leaves(functions, limits, &mut nodes);
+        let tournament = Tournament { rank, functions };
+        tournament.play_all(&mut nodes);
+        Ranking {
+            tournament,
+            limits,
+            nodes,
+            taken: 0,
+        }
     }
-    let leaf = n + first;
-    nodes[leaf] = n as u16;
-    play_path(order, tree, lent, n, nodes, leaf / 2);
-    first
+
+    // The next function, which is taken.
+    pub fn next(&mut self) -> Option<Function<'a>>
+        ensures { MatchOption result ((self.old ≡ []) × (self.new ≡ [])) (λ f. self.old ≡ shown f ∷ self.new) }
+    {
+        let functions = self.tournament.functions;
+        let n = functions.count;
+        let first = usize::from(self.nodes[1]);
+        if n <= first {
+            return None;
+        }
+        let leaf = n + first;
+        self.nodes[leaf] = n as u16;
+        self.tournament.play_path(&mut self.nodes, leaf / 2);
+        self.taken += 1;
+        Some(functions.get(first))
+    }
 }

@@ -41,6 +41,7 @@ impl Record {
     }
 
     // Its bytes from `at` on, and no other byte changed.
+    #[tactic(auto, unfolding(gate_rules::specs::Records::record_bytes))]
     pub fn put(self, records: &mut [u8], at: usize)
         requires { at + record_width ≤ length records.old }
         ensures { records.new ≡ put_at at (record_bytes (numbers self)) records.old }
@@ -55,9 +56,7 @@ impl Record {
             self.nesting,
             self.params,
         ];
-        for (k, number) in numbers.iter().enumerate() {
-            words::put_u32(records, at + 4 * k, *number);
-        }
+        words::put_u32s(records, at, numbers);
     }
 
     // Its name: a part of the lent tree, or an empty one where the record leaves the tree.

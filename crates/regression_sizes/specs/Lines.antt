@@ -1,23 +1,18 @@
 -- The regression lines of one function by what the baseline accepts of it, and their lengths in plain numbers.
-use Rattle.std.specs.Prelude.{ℕ, ◌+◌, ◌-◌, ◌≤◌, ◌≡◌, refl, true, false, List, [], ◌∷◌, ◌++◌, ltb, length}
+use Rattle.std.specs.Prelude.{ℕ, ◌+◌, ◌≡◌, refl, true, false, Option, Some, None, List, [], ◌∷◌, ◌++◌, ltb, length}
 use Rattle.std.proofs.Common.{ap, subst, sym, ◌∙◌, append_assoc, append-nil, arith, length-append}
-use Rattle.std.proofs.Math.Option.{Option, none, some}
+use Rattle.std.proofs.Math.Option.{Option as MathOption, none, some}
 use Rattle.text_rules.specs.Bytes.{ascii, if◌then◌otherwise◌, joined}
 use Rattle.text_rules.specs.Decimal.{decimal}
-use Rattle.text_rules.proofs.SearchLaws.{part_length}
 use Rattle.text_rules.proofs.WriterLaws.{joined_length}
 use Rattle.gate_rules.specs.Baseline.{Entry}
 use Rattle.gate_rules.specs.Check.{against, listed, location, more_branches, more_lines, new_and_over}
 use Rattle.gate_rules.specs.Functions.{Fun, Limits, over}
 use Rattle.gate_rules.proofs.LoopForms.{listed-append}
+use Rattle.listing.specs.declared.Size.{Size}
 use Rattle.listing.specs.Texts.{located, located-length, located_length, location-is}
 use Rattle.baseline.specs.Reads.{accepted_by}
-use Rattle.baseline.specs.declared.Accepted.{Accepted}
-use Rattle.baseline.specs.declared.Accepted.TheVariants.{Measures, Unlisted}
 use Rattle.baseline.specs.declared.Recorded.{Recorded}
-use Rattle.functions.specs.Shown.{Lies, shown}
-use Rattle.functions.specs.declared.Function.{Function}
-use Rattle.regression_sizes.specs.declared.Size.{Size}
 
 -- what is accepted of a listed function, as an entry: its path and its name stand in no line
 abbrev pub entry_of : Recorded → Entry
@@ -38,32 +33,15 @@ abbrev pub new_of : Limits → Fun → List (List ℕ)
 new_of L f = if over L f then new_and_over f ∷ [] otherwise []
 
 -- the lines of a function against what is accepted of it
-abbrev pub accepts : Limits → Fun → Accepted → List (List ℕ)
-accepts L f (Measures m) = grown_of f m
-accepts L f Unlisted = new_of L f
+abbrev pub accepts : Limits → Fun → Option Recorded → List (List ℕ)
+accepts L f (Some m) = grown_of f m
+accepts L f None = new_of L f
 
 -- they are the lines of the rules
-pub accepts-is : (L : Limits) (f : Fun) (o : Option Entry) → accepts L f (accepted_by o) ≡ against L f o
+pub accepts-is : (L : Limits) (f : Fun) (o : MathOption Entry) → accepts L f (accepted_by o) ≡ against L f o
 unfolding more_branches more_lines
 accepts-is L f none = refl
 accepts-is L f (some e) = refl
-
--- the bounds of path and name are in order, and within the largest tree: the lengths need no tree
-pub record Small (f : Function) : Type 0 where
-  pub path-order : f.path_at ≤ f.path_end
-  pub path-small : f.path_end ≤ 16777216
-  pub name-order : f.name_at ≤ f.name_end
-  pub name-small : f.name_end ≤ 16777216
-
-pub lies_small : {tree : List ℕ} {f : Function} → Lies tree f → length tree ≤ 16777216 → Small f
-lies_small {tree} {f} l h =
-    record { path-order = l.path-order; path-small = omega (arith, l.path_inside); name-order = l.name-order; name-small = omega (arith, l.name-inside) }
-
-pub path-length : {tree : List ℕ} {f : Function} → Lies tree f → length (shown tree f).path ≡ f.path_end - f.path_at
-path-length {tree} {f} l = part_length f.path_at f.path_end tree l.path-order l.path_inside
-
-pub name-length : {tree : List ℕ} {f : Function} → Lies tree f → length (shown tree f).name ≡ f.name_end - f.name_at
-name-length {tree} {f} l = part_length f.name_at f.name_end tree l.name-order l.name-inside
 
 -- a line as it is listed
 abbrev pub told : List ℕ → List ℕ
@@ -114,6 +92,9 @@ pair-length first m second n = joined_length (first ∷ decimal m ∷ second ∷
 -- a line with one pair of numbers, and one with two
 abbrev pub one_pair : Fun → (first : List ℕ) (m : ℕ) (second : List ℕ) (n : ℕ) → List (List ℕ)
 one_pair f first m second n = started f ∷ pair first m second n ∷ ascii "\n" ∷ []
+
+abbrev pub line_with : Fun → (first : List ℕ) (m : ℕ) (second : List ℕ) (n : ℕ) → List ℕ
+line_with f first m second n = joined (one_pair f first m second n)
 
 abbrev pub two_pairs : Fun → List (List ℕ)
 two_pairs f =
@@ -177,6 +158,21 @@ new_some L f h = rw h
 
 pub new_none : (L : Limits) (f : Fun) → over L f ≡ false → new_of L f ≡ []
 new_none L f h = rw h
+
+-- a line that there is, by its parts
+pub branches_line : (f : Fun) (m : Recorded) → ltb m.cyclomatic f.cyclomatic ≡ true → line_with f (ascii " cyclomatic ") f.cyclomatic (ascii " was ") m.cyclomatic ≡ listed (branches_of f m)
+branches_line f m h = branches_parts f m ∙ ap listed (sym (branches_some f m h))
+
+pub lines_line : (f : Fun) (m : Recorded) → ltb m.lines f.lines ≡ true → line_with f (ascii " is ") f.lines (ascii " lines, was ") m.lines ≡ listed (lines_of f m)
+lines_line f m h = lines-parts f m ∙ ap listed (sym (lines-some f m h))
+
+pub new_line : (L : Limits) (f : Fun) → over L f ≡ true → joined (two_pairs f) ≡ listed (new_of L f)
+new_line L f h = new_parts f ∙ ap listed (sym (new_some L f h))
+
+-- where there is none, nothing is listed
+pub nothing_listed : {ls : List (List ℕ)} → ls ≡ [] → listed ls ≡ []
+unfolding listed
+nothing_listed e = ap listed e
 
 -- ---- lines one after another
 

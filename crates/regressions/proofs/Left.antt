@@ -2,29 +2,25 @@
 use Prim.Native.Nat.{ℕ, suc, ◌+◌, ◌≤◌, ◌<◌}
 use mathlib.Core.Path.{◌≡◌, ap, ap₂, sym, ◌∙◌}
 use mathlib.Core.List.{List, [], ◌++◌}
-use native.Mathlib.Omega.{arith}
 use native.Mathlib.Numerals.{add-one}
+use Rattle.std.specs.Prelude.{Option}
 use lib.ListN.{length, drop, get_or, drop_of_length-le, length-append}
 use lib.Seq.{drop-cons}
-use Rattle.text_rules.specs.Bytes.{put_at}
-use Rattle.text_rules.proofs.PutLaws.{put_next}
-use Rattle.text_rules.proofs.WriterLaws.{put-none}
 use Rattle.gate_rules.specs.Baseline.{Entry, lookup}
 use Rattle.gate_rules.specs.Check.{against, listed, regressions}
 use Rattle.gate_rules.specs.Functions.{Fun, Limits, key}
 use Rattle.gate_rules.proofs.LoopForms.{listed-append}
 use Rattle.functions.specs.Shown.{no_fun}
 use Rattle.baseline.specs.Reads.{accepted_by}
-use Rattle.baseline.specs.declared.Accepted.{Accepted}
+use Rattle.baseline.specs.declared.Recorded.{Recorded}
 use Rattle.regression_sizes.specs.Lines.{accepts, accepts-is, both-length}
-use Rattle.regressions.specs.Written.{Written}
 
 module _ (L : Limits) (es : List Entry) (fs : List Fun) where
   abbrev pub left : ℕ → List (List ℕ)
   left k = regressions L es (drop k fs)
 
   -- the function with the number, then the others
-  pub left_step : (k : ℕ) (f : Fun) (a : Accepted) → f ≡ get_or fs k no_fun → a ≡ accepted_by (lookup (key f) es) → k < length fs → left k ≡ accepts L f a ++ left (k + 1)
+  pub left_step : (k : ℕ) (f : Fun) (a : Option Recorded) → f ≡ get_or fs k no_fun → a ≡ accepted_by (lookup (key f) es) → k < length fs → left k ≡ accepts L f a ++ left (k + 1)
   unfolding regressions
   left_step k f a e d h =
       ap (regressions L es) (drop-cons fs k no_fun h)
@@ -45,15 +41,6 @@ pub none_bytes : (ls : List (List ℕ)) → ls ≡ [] → length (listed ls) ≡
 unfolding listed
 none_bytes ls e = ap (λ l. length (listed l)) e
 
--- what is still to be put, after some lines
-pub put_step : {at next : ℕ} {mine : List (List ℕ)} {s t : List ℕ} (here rest : List (List ℕ)) → Written at mine s next t → here ≡ mine ++ rest → at + length (listed here) ≤ length s
-    → put_at next (listed rest) t ≡ put_at at (listed here) s
-put_step {at} {next} {mine} {s} {t} here rest w e h =
-    let size = bytes_step here mine rest e in
-    ap₂ (λ n x. put_at n (listed rest) x) w.next-is w.bytes_are
-    ∙ put_next at (listed mine) (listed rest) s (omega arith)
-    ∙ ap (λ x. put_at at x s) (sym (ap listed e ∙ listed-append mine rest))
-
-pub put-end : (at : ℕ) (ls : List (List ℕ)) (s : List ℕ) → ls ≡ [] → put_at at (listed ls) s ≡ s
-unfolding listed
-put-end at ls s e = ap (λ l. put_at at (listed l) s) e ∙ put-none at s
+-- the lines as they are listed
+pub listed_step : (here mine rest : List (List ℕ)) → here ≡ mine ++ rest → listed here ≡ listed mine ++ listed rest
+listed_step here mine rest e = ap listed e ∙ listed-append mine rest

@@ -2,267 +2,153 @@
 // knows how many bytes they take before any of them is written.
 #![tactic(auto)]
 
-ghost use Rattle.std.specs.Prelude.{◌≡◌, true, false, ◌+◌, ◌≤◌, ◌<◌, length, get_or};
-ghost use Rattle.text_rules.specs.Bytes.{put_at};
-ghost use Rattle.gate_rules.specs.Baseline.{entries_of_lines, lookup};
-ghost use Rattle.gate_rules.specs.Check.{listed, more_branches, more_lines, new_and_over, regressions};
-ghost use Rattle.gate_rules.specs.Functions.{key};
-ghost use Rattle.gate_rules.specs.Gate.{gate};
-ghost use Rattle.gate_rules.specs.Scan.{functions_of};
-ghost use Rattle.functions.specs.Shown.{Lies, Stand, limits_of, no_fun, shown};
-ghost use Rattle.baseline.specs.Ordered.{Unfalling, keys_in};
-ghost use Rattle.baseline.specs.Reads.{accepted_by};
-ghost use Rattle.places.specs.Places.{Filled};
-ghost use Rattle.regression_sizes.specs.Lines.{accepts, branches_length, branches_of, entry_of, grown_of, lines_length, lines_of, new_length, new_of, pair, pair_length, start_length, started, told};
-ghost use Rattle.regressions.specs.Written.{Written};
+ghost use Rattle.std.specs.Prelude.{◌≡◌, ◌≤◌, length};
+ghost use Rattle.gate_rules.specs.Check.{listed};
+ghost use Rattle.functions.specs.Shown.{limits_of, shown};
+ghost use Rattle.listing.specs.Writes.{Room, Writes};
+ghost use Rattle.regression_sizes.specs.Lines.{accepts, branches_of, grown_of, lines_of, line_with, new_of, pair, started};
+ghost use Rattle.regressions.specs.Worse.{worse_in};
 
-use baseline::{Accepted, Recorded};
+use baseline::Recorded;
 use functions::{Function, Limits};
-use regression_sizes::Size;
+use listing::{Size, Writer};
 
-// ---- the start of a line
+mod entries;
+
+pub use entries::Entries;
+
+// ---- the parts of a line
 
 // Two spaces and path:line name.
-fn put_start(tree: &[u8], f: Function, out: &mut [u8], at: usize) -> usize
-    requires { Lies tree.now f × (at + start_length (shown tree.now f) ≤ length out.old) }
-    ensures { (result ≡ at + start_length (shown tree.now f))
-        × (out.new ≡ put_at at (started (shown tree.now f)) out.old) }
+fn write_start(w: &mut Writer<'_>, f: Function)
+    requires { Room (started (shown f)) w.old }
+    ensures { Writes (started (shown f.entry)) w.old w.new }
 {
-    let from = f.path_at;
-    let to = f.path_end;
-    let start = f.name_at;
-    let end = f.name_end;
-    let place = listing::put_text(out, at, b"  ");
-    listing::put_location(out, place, &tree[from..to], f.line, &tree[start..end])
+    w.text(b"  ");
+    w.location(f.path, f.line, f.name);
 }
 
 // Two numbers, each behind the words that say what it is.
-fn put_pair(out: &mut [u8], at: usize, first: &[u8], m: u64, second: &[u8], n: u64) -> usize
-    requires { at + pair_length first.now m second.now n ≤ length out.old }
-    ensures { (result ≡ at + pair_length first.now m second.now n)
-        × (out.new ≡ put_at at (pair first.now m second.now n) out.old) }
+fn write_pair(w: &mut Writer<'_>, first: &[u8], m: u64, second: &[u8], n: u64)
+    requires { Room (pair first.now m second.now n) w.old }
+    ensures { Writes (pair first.now m second.now n) w.old w.new }
 {
-    let number = listing::put_text(out, at, first);
-    let words = listing::put_number(out, number, m);
-    let last = listing::put_text(out, words, second);
-    listing::put_number(out, last, n)
+    w.text(first);
+    w.number(m);
+    w.text(second);
+    w.number(n);
 }
 
-// ---- a listed function with a higher cyclomatic number
-
-// The line itself.
-fn put_branches_line(tree: &[u8], f: Function, m: Recorded, out: &mut [u8], at: usize) -> usize
-    requires { Lies tree.now f × (at + branches_length (shown tree.now f) m ≤ length out.old) }
-    ensures { (result ≡ at + branches_length (shown tree.now f) m)
-        × (out.new ≡ put_at at (told (more_branches (shown tree.now f) (entry_of m))) out.old) }
+// A line with one pair of numbers.
+fn write_line(w: &mut Writer<'_>, f: Function, first: &[u8], m: u64, second: &[u8], n: u64)
+    requires { Room (line_with (shown f) first.now m second.now n) w.old }
+    ensures { Writes (line_with (shown f.entry) first.now m second.now n) w.old w.new }
 {
-    let number = put_start(tree, f, out, at);
-    let end = put_pair(
-        out,
-        number,
-        b" cyclomatic ",
-        f.cyclomatic as u64,
-        b" was ",
-        m.cyclomatic as u64,
-    );
-    listing::put_text(out, end, b"\n")
+    write_start(w, f);
+    write_pair(w, first, m, second, n);
+    w.text(b"\n");
 }
 
-// The line, where there is one.
-fn put_branches(tree: &[u8], f: Function, m: Recorded, out: &mut [u8], at: usize) -> usize
-    requires { Lies tree.now f × (at + length (listed (branches_of (shown tree.now f) m)) ≤ length out.old) }
-    ensures { Written at (branches_of (shown tree.now f) m) out.old result out.new }
+// ---- the lines of one function
+
+// That of a listed function with a higher cyclomatic number.
+fn write_branches(w: &mut Writer<'_>, f: Function, m: Recorded)
+    requires { Room (listed (branches_of (shown f) m)) w.old }
+    ensures { Writes (listed (branches_of (shown f.entry) m)) w.old w.new }
 {
     if regression_sizes::more_branches(f, m) {
-        return put_branches_line(tree, f, m, out, at);
-    }
-    at
-}
-
-// ---- a listed function with more lines
-
-// The line itself.
-fn put_lines_line(tree: &[u8], f: Function, m: Recorded, out: &mut [u8], at: usize) -> usize
-    requires { Lies tree.now f × (at + lines_length (shown tree.now f) m ≤ length out.old) }
-    ensures { (result ≡ at + lines_length (shown tree.now f) m)
-        × (out.new ≡ put_at at (told (more_lines (shown tree.now f) (entry_of m))) out.old) }
-{
-    let number = put_start(tree, f, out, at);
-    let end = put_pair(
-        out,
-        number,
-        b" is ",
-        f.lines as u64,
-        b" lines, was ",
-        m.lines,
-    );
-    listing::put_text(out, end, b"\n")
-}
-
-// The line, where there is one.
-fn put_lines(tree: &[u8], f: Function, m: Recorded, out: &mut [u8], at: usize) -> usize
-    requires { Lies tree.now f × (at + length (listed (lines_of (shown tree.now f) m)) ≤ length out.old) }
-    ensures { Written at (lines_of (shown tree.now f) m) out.old result out.new }
-{
-    if regression_sizes::more_lines(f, m) {
-        return put_lines_line(tree, f, m, out, at);
-    }
-    at
-}
-
-// ---- an unlisted function that is over-limit
-
-// The line itself.
-fn put_new_line(tree: &[u8], f: Function, out: &mut [u8], at: usize) -> usize
-    requires { Lies tree.now f × (at + new_length (shown tree.now f) ≤ length out.old) }
-    ensures { (result ≡ at + new_length (shown tree.now f))
-        × (out.new ≡ put_at at (told (new_and_over (shown tree.now f))) out.old) }
-{
-    let first = put_start(tree, f, out, at);
-    let second = put_pair(
-        out,
-        first,
-        b" is new and over: cyclomatic ",
-        f.cyclomatic as u64,
-        b" lines ",
-        f.lines as u64,
-    );
-    let end = put_pair(
-        out,
-        second,
-        b" nesting ",
-        f.nesting as u64,
-        b" params ",
-        f.params as u64,
-    );
-    listing::put_text(out, end, b"\n")
-}
-
-// The line, where there is one.
-fn put_new(tree: &[u8], f: Function, limits: Limits, out: &mut [u8], at: usize) -> usize
-    requires { Lies tree.now f × (at + length (listed (new_of (limits_of limits) (shown tree.now f))) ≤ length out.old) }
-    ensures { Written at (new_of (limits_of limits) (shown tree.now f)) out.old result out.new }
-{
-    if functions::is_over(limits, f) {
-        return put_new_line(tree, f, out, at);
-    }
-    at
-}
-
-// ---- one function
-
-// What the baseline accepts of the function k. Where its keys never fall, they are not all read; else the function's place tells the line.
-fn accepted(
-    tree: &[u8],
-    f: Function,
-    k: usize,
-    lines: &[u8],
-    ordered: bool,
-    places: &[u32; 8192],
-) -> Accepted
-    requires { Lies tree.now f
-        × (shown tree.now f ≡ get_or (functions_of gate tree.now) k no_fun)
-        × (k < length (functions_of gate tree.now))
-        × (k < 8192)
-        × (ordered ≡ true → Unfalling (keys_in lines.now))
-        × (ordered ≡ false → Filled lines.now (functions_of gate tree.now) places.now) }
-    ensures { result ≡ accepted_by (lookup (key (shown tree.now f)) (entries_of_lines lines.now)) }
-{
-    if ordered {
-        return lookup::lookup_ordered(
-            lines,
-            functions::path_of(tree, f),
-            functions::name_of(tree, f),
+        write_line(
+            w,
+            f,
+            b" cyclomatic ",
+            f.cyclomatic as u64,
+            b" was ",
+            m.cyclomatic as u64,
         );
     }
-    places::accepted_at(lines, places[k])
 }
 
-// The lines of a listed function.
-fn put_grown(tree: &[u8], f: Function, m: Recorded, out: &mut [u8], at: usize) -> usize
-    requires { Lies tree.now f × (at + length (listed (grown_of (shown tree.now f) m)) ≤ length out.old) }
-    ensures { Written at (grown_of (shown tree.now f) m) out.old result out.new }
+// That of a listed function with more lines.
+fn write_lines(w: &mut Writer<'_>, f: Function, m: Recorded)
+    requires { Room (listed (lines_of (shown f) m)) w.old }
+    ensures { Writes (listed (lines_of (shown f.entry) m)) w.old w.new }
 {
-    let next = put_branches(tree, f, m, out, at);
-    put_lines(tree, f, m, out, next)
+    if regression_sizes::more_lines(f, m) {
+        write_line(w, f, b" is ", f.lines as u64, b" lines, was ", m.lines);
+    }
+}
+
+// Those of a listed function.
+fn write_grown(w: &mut Writer<'_>, f: Function, m: Recorded)
+    requires { Room (listed (grown_of (shown f) m)) w.old }
+    ensures { Writes (listed (grown_of (shown f.entry) m)) w.old w.new }
+{
+    write_branches(w, f, m);
+    write_lines(w, f, m);
+}
+
+// That of an unlisted function that is over-limit.
+fn write_new(w: &mut Writer<'_>, f: Function, limits: Limits)
+    requires { Room (listed (new_of (limits_of limits) (shown f))) w.old }
+    ensures { Writes (listed (new_of (limits_of limits) (shown f.entry))) w.old w.new }
+{
+    if f.is_over(limits) {
+        write_start(w, f);
+        write_pair(
+            w,
+            b" is new and over: cyclomatic ",
+            f.cyclomatic as u64,
+            b" lines ",
+            f.lines as u64,
+        );
+        write_pair(
+            w,
+            b" nesting ",
+            f.nesting as u64,
+            b" params ",
+            f.params as u64,
+        );
+        w.text(b"\n");
+    }
 }
 
 // A function's lines against what is accepted of it.
-fn put_against(
-    tree: &[u8],
-    f: Function,
-    a: Accepted,
-    limits: Limits,
-    out: &mut [u8],
-    at: usize,
-) -> usize
-    requires { Lies tree.now f × (at + length (listed (accepts (limits_of limits) (shown tree.now f) a)) ≤ length out.old) }
-    ensures { Written at (accepts (limits_of limits) (shown tree.now f) a) out.old result out.new }
+fn write_against(w: &mut Writer<'_>, f: Function, accepted: Option<Recorded>, limits: Limits)
+    requires { Room (listed (accepts (limits_of limits) (shown f) accepted)) w.old }
+    ensures { Writes (listed (accepts (limits_of limits) (shown f.entry) accepted)) w.old w.new }
 {
-    match a {
-        Accepted::Measures(m) => put_grown(tree, f, m, out, at),
-        Accepted::Unlisted => put_new(tree, f, limits, out, at),
+    match accepted {
+        Some(m) => write_grown(w, f, m),
+        None => write_new(w, f, limits),
     }
 }
 
 // ---- all functions
 
 // How many regression lines there are, and the bytes of all of them as they are listed.
-pub fn measure(
-    tree: &[u8],
-    lent: &[u8],
-    n: usize,
-    lines: &[u8],
-    ordered: bool,
-    places: &[u32; 8192],
-    limits: Limits,
-) -> Size
-    requires { Stand tree.now lent.now
-        × (n ≡ length (functions_of gate tree.now))
-        × (ordered ≡ true → Unfalling (keys_in lines.now))
-        × (ordered ≡ false → Filled lines.now (functions_of gate tree.now) places.now) }
-    ensures { (result.count ≡ length (regressions (limits_of limits) (entries_of_lines lines.now) (functions_of gate tree.now)))
-        × (result.bytes ≡ length (listed (regressions (limits_of limits) (entries_of_lines lines.now) (functions_of gate tree.now))))
-        × (result.count ≤ 16384)
-        × (result.bytes ≤ 655360000000) }
+pub fn measure(entries: Entries, limits: Limits) -> Size
+    ensures count { result.count ≡ length (worse_in (limits_of limits) entries.entry.functions.tree.now entries.entry.lines.now) }
+    ensures bytes { result.bytes ≡ length (listed (worse_in (limits_of limits) entries.entry.functions.tree.now entries.entry.lines.now)) }
+    ensures few { result.count ≤ 16384 }
+    ensures short { result.bytes ≤ 655360000000 }
 {
-    let mut count: usize = 0;
-    let mut bytes: usize = 0;
-    for k in 0..n {
-        let f = functions::function_at(tree, lent, k);
-        let a = accepted(tree, f, k, lines, ordered, places);
-        let size = regression_sizes::size_against(f, a, limits);
-        count += size.count;
-        bytes += size.bytes;
+    let mut all = Size { count: 0, bytes: 0 };
+    for k in 0..entries.functions.count {
+        let f = entries.functions.get(k);
+        let accepted = entries.accepted(k, f);
+        all = all.plus(regression_sizes::size_against(f, accepted, limits));
     }
-    Size { count, bytes }
+    all
 }
 
 // The regression lines, in scan order, each with two spaces in front and an LF behind.
-pub fn put_all(
-    tree: &[u8],
-    lent: &[u8],
-    n: usize,
-    lines: &[u8],
-    ordered: bool,
-    places: &[u32; 8192],
-    limits: Limits,
-    out: &mut [u8],
-    at: usize,
-) -> usize
-    requires { Stand tree.now lent.now
-        × (n ≡ length (functions_of gate tree.now))
-        × (at + length (listed (regressions (limits_of limits) (entries_of_lines lines.now) (functions_of gate tree.now))) ≤ length out.old)
-        × (ordered ≡ true → Unfalling (keys_in lines.now))
-        × (ordered ≡ false → Filled lines.now (functions_of gate tree.now) places.now) }
-    ensures { (result ≡ at + length (listed (regressions (limits_of limits) (entries_of_lines lines.now) (functions_of gate tree.now))))
-        × (out.new ≡ put_at at (listed (regressions (limits_of limits) (entries_of_lines lines.now) (functions_of gate tree.now))) out.old) }
+pub fn write_all(w: &mut Writer<'_>, entries: Entries, limits: Limits)
+    requires { Room (listed (worse_in (limits_of limits) entries.functions.tree.now entries.lines.now)) w.old }
+    ensures { Writes (listed (worse_in (limits_of limits) entries.entry.functions.tree.now entries.entry.lines.now)) w.old w.new }
 {
-    let mut next = at;
-    for k in 0..n {
-        let f = functions::function_at(tree, lent, k);
-        let a = accepted(tree, f, k, lines, ordered, places);
-        next = put_against(tree, f, a, limits, out, next);
+    for k in 0..entries.functions.count {
+        let f = entries.functions.get(k);
+        let accepted = entries.accepted(k, f);
+        write_against(w, f, accepted, limits);
     }
-    next
 }

@@ -1,7 +1,7 @@
 -- The files of the report, taken one after another: their order by number, and what has been listed.
-use Rattle.std.specs.Prelude.{ℕ, zero, suc, ◌+◌, ◌≤◌, ◌<◌, ◌≡◌, Bool, true, false, List, [], ◌∷◌, ◌++◌, map, set}
+use Rattle.std.specs.Prelude.{Option, None, Some, refl, ℕ, zero, suc, ◌+◌, ◌≤◌, ◌<◌, ◌≡◌, Bool, true, false, List, [], ◌∷◌, ◌++◌, map, set}
 use Rattle.std.proofs.Math.Path.{ap}
-use Rattle.std.proofs.Common.{subst, sym, ◌∙◌, append_assoc, append-nil, arith, add-one, drop_of_length-le, length-set, drop-cons, get_or-take, take_all, take_at, take-suc-set}
+use Rattle.std.proofs.Common.{subst, sym, ◌∙◌, append_assoc, append-nil, arith, add-one, drop_of_length-le, length-set, drop-cons, take_all, take_at, take-suc-set}
 use Rattle.std.proofs.Math.ListN.{length, take, drop, get_or, length-take}
 use Rattle.std.proofs.lemmas.List.{length-map}
 use borrow.Author.Tests.{eq-eqb, le-ltb, lt-ltb, ne_eqb}
@@ -21,6 +21,16 @@ use Rattle.report_files.specs.Weights.{is_listed, listed as all_listed, listed-c
 -- a file's row
 abbrev pub file_row : Weight → List ℕ
 file_row w = weight_row w.sum w.path
+
+-- the number of a file; where there is none, that of all files
+abbrev pub number_in : List ℕ → Option ℕ → ℕ
+number_in tree None = file_count tree
+number_in tree (Some k) = k
+
+-- it is a file of the tree
+abbrev pub IsFile : List ℕ → Option ℕ → Type 0
+IsFile tree None = Unit {0}
+IsFile tree (Some k) = k < file_count tree
 
 -- the ways that code goes through the order of the files
 module _ (v w : Weight) where
@@ -62,11 +72,15 @@ module _ (tree : List ℕ) where
   abbrev pub heaviest_files : List Weight
   heaviest_files = rules.heaviest (weights gate.functions_in (gate.files tree))
 
-  -- the first `count` numbers are those of the heaviest files
-  pub record Heavy (count : ℕ) (files : List ℕ) : Type 0 where
+  -- the first `count` numbers are those of files, at most ten
+  pub record Within (count : ℕ) (files : List ℕ) : Type 0 where
     pub size : length files ≡ 10
     pub few : count ≤ 10
     pub inside : All (λ k. k < file_count tree) (take count files)
+
+  -- and of the heaviest ones
+  pub record Heavy (count : ℕ) (files : List ℕ) : Type 0 where
+    pub within : Within count files
     pub are : heaviest_files ≡ map (weight_at tree) (take count files)
 
   -- after `done` files the last one was `last`
@@ -97,9 +111,7 @@ module _ (tree : List ℕ) where
   unfolding rules.heaviest
   heavy_at done last files l e =
       record {
-        size = l.size;
-        few = l.few;
-        inside = l.inside;
+        within = record { size = l.size; few = l.few; inside = l.inside };
         are = ap (λ ws. take 10 (sort heavier ws)) (weights-are tree) ∙ ap (take 10) (sym l.all) ∙ e;
       }
 
@@ -134,36 +146,30 @@ module _ (tree : List ℕ) where
               ∙ l.all;
         }
 
-  -- the rows of the heaviest files from the one at place i on
+  -- the rows of the files from the one at place i on
   unfoldable pub rows_from : ℕ → List ℕ → ℕ → List ℕ
   rows_from count files i = weight_rows (map (weight_at tree) (drop i (take count files)))
 
-  pub rows_all : (count : ℕ) (files : List ℕ) → Heavy count files → rows_from count files 0 ≡ weight_rows heaviest_files
+  pub rows_all : (count : ℕ) (files : List ℕ) → rows_from count files 0 ≡ weight_rows (map (weight_at tree) (take count files))
   unfolding rows_from
-  rows_all count files h = ap weight_rows (sym h.are)
+  rows_all count files = refl
 
-  module _ (count : ℕ) (files : List ℕ) (h : Heavy count files) (i : ℕ) where
-    pub rows-done : count ≤ i → rows_from count files i ≡ []
+  module _ (count : ℕ) (files : List ℕ) (h : Within count files) (i : ℕ) where
+    pub rows-done : length (take count files) ≤ i → rows_from count files i ≡ []
     unfolding rows_from weight_rows
-    rows-done l =
-        let short : length (take count files) ≤ i = omega (arith, length-take count files) in
-        ap (λ ks. weight_rows (map (weight_at tree) ks)) (drop_of_length-le (take count files) short)
+    rows-done l = ap (λ ks. weight_rows (map (weight_at tree) ks)) (drop_of_length-le (take count files) l)
 
-    module _ (l : i < count) where
-      here : get_or (take count files) i 0 ≡ get_or files i 0
-      here = get_or-take count files i 0 l
-
-      pub file-inside : get_or files i 0 < file_count tree
-      file-inside = subst (λ k. k < file_count tree) here (at_place (take count files) h.inside i (omega (arith, length-take count files, h.few, h.size)))
+    module _ (l : i < length (take count files)) where
+      pub file-inside : get_or (take count files) i 0 < file_count tree
+      file-inside = at_place (take count files) h.inside i l
         where
           at_place : (ks : List ℕ) → All (λ k. k < file_count tree) ks → (j : ℕ) → j < length ks → get_or ks j 0 < file_count tree
           at_place [] a j m = absurd (omega arith)
           at_place (k ∷ ks) a zero m = a.0
           at_place (k ∷ ks) a (suc j) m = at_place ks a.1 j (omega arith)
 
-      pub rows_step : rows_from count files i ≡ file_row (weight_at tree (get_or files i 0)) ++ rows_from count files (i + 1)
+      pub rows_step : rows_from count files i ≡ file_row (weight_at tree (get_or (take count files) i 0)) ++ rows_from count files (i + 1)
       unfolding rows_from
       rows_step =
-          let split : drop i (take count files) ≡ get_or files i 0 ∷ drop (i + 1) (take count files) =
-          rw (add-one i) (drop-cons (take count files) i 0 (omega (arith, length-take count files, h.few, h.size)) ∙ ap (λ k. k ∷ drop (suc i) (take count files)) here) in
-          ap (λ ks. weight_rows (map (weight_at tree) ks)) split ∙ weight-rows-next (weight_at tree (get_or files i 0)) (map (weight_at tree) (drop (i + 1) (take count files)))
+          let split : drop i (take count files) ≡ get_or (take count files) i 0 ∷ drop (i + 1) (take count files) = rw (add-one i) (drop-cons (take count files) i 0 l) in
+          ap (λ ks. weight_rows (map (weight_at tree) ks)) split ∙ weight-rows-next (weight_at tree (get_or (take count files) i 0)) (map (weight_at tree) (drop (i + 1) (take count files)))

@@ -1,2 +1,3 @@
 pub mod Weights
 pub mod Files
+pub mod Tops

@@ -13,9 +13,9 @@ use Rattle.gate_rules.specs.ReportCall.{sums_of}
 use Rattle.gate_rules.specs.Scan.{File}
 use Rattle.gate_rules.specs.SumOver.{sum_over}
 use Rattle.gate_rules.proofs.SumLaws.{file-sum, no_sum}
-use Rattle.gate_rules.specs.Tree.{entry_at, file_count, path_length, path_of, path_offset, source_at, sources, sources_from, is_laid_out, tree_refusal}
-use Rattle.gate_rules.proofs.TreeLaws.{laid_out, unrefused}
-use Rattle.sums.specs.Sums.{Sums}
+use Rattle.gate_rules.specs.Tree.{entry_at, file_count, path_length, path_of, path_offset, source_at, sources, sources_from}
+use Rattle.gate_rules.proofs.TreeLaws.{unrefused}
+use Rattle.sums.specs.Known.{Known, known-few}
 
 abbrev pub no_weight : Weight
 no_weight = record { path = []; functions = 0; sum = 0 }
@@ -30,11 +30,6 @@ listed tree = map (weight_of functions_of_files) (map file_of (sources tree))
 
 abbrev pub weight_at : List ℕ → ℕ → Weight
 weight_at tree k = get_or (listed tree) k no_weight
-
--- the sums that are known are those of an unrefused tree
-pub record Known (tree of : List ℕ) : Type 0 where
-  pub unrefused : tree_refusal tree ≡ 0
-  pub sums : Sums tree of
 
 -- those with a function, in their order
 kept-weights : (fs : List File) → weights functions_of_files fs ≡ kept is_listed (map (weight_of functions_of_files) fs)
@@ -109,22 +104,17 @@ pub weight-some : (tree : List ℕ) (k : ℕ) → k < file_count tree → is_lis
 weight-some tree k h =
     ap is_listed (weight_is tree k h) ∙ file-some (file_of (source_at tree (0 + k) (4 + 16 * k))) ∙ sym (ap (λ w. ltb 0 w.sum) (weight_is tree k h))
 
--- what is known of the tree and of the sums
-pub known-laid : (tree of : List ℕ) → Known tree of → is_laid_out tree ≡ true
-known-laid tree of known = (unrefused tree known.unrefused).laid
-
-pub known-few : (tree of : List ℕ) → Known tree of → file_count tree ≤ 1024
-known-few tree of known = (laid_out tree (known-laid tree of known)).few
-
+-- what is known of the sums
 module _ (tree of : List ℕ) (known : Known tree of) (k : ℕ) (h : k < file_count tree) where
   pub sum-at : get_or of k 0 ≡ (weight_at tree k).sum
   sum-at = known.sums.sum_of k (omega (arith, known-few tree of known)) ∙ sym (weight-sum tree k h)
 
-  pub listed_not : get_or of k 0 ≡ 0 → is_listed (weight_at tree k) ≡ false
-  listed_not e = weight-some tree k h ∙ le-ltb 0 (weight_at tree k).sum (omega (arith, sum-at))
+module _ (tree : List ℕ) (k : ℕ) (h : k < file_count tree) where
+  pub listed_not : (weight_at tree k).sum ≡ 0 → is_listed (weight_at tree k) ≡ false
+  listed_not e = weight-some tree k h ∙ le-ltb 0 (weight_at tree k).sum (omega (arith, e))
 
-  pub listed-some : (get_or of k 0 ≡ 0 → ⊥) → is_listed (weight_at tree k) ≡ true
-  listed-some n = weight-some tree k h ∙ lt-ltb 0 (weight_at tree k).sum (positive (weight_at tree k).sum (λ e. n (sum-at ∙ e)))
+  pub listed-some : ((weight_at tree k).sum ≡ 0 → ⊥) → is_listed (weight_at tree k) ≡ true
+  listed-some n = weight-some tree k h ∙ lt-ltb 0 (weight_at tree k).sum (positive (weight_at tree k).sum n)
     where
       positive : (m : ℕ) → (m ≡ 0 → ⊥) → 0 < m
       positive zero p = absurd (p refl)

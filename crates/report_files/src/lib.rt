@@ -1,174 +1,198 @@
 // The report's files: the ten with the greatest sums, and their rows.
 #![tactic(auto)]
 
-ghost use Rattle.std.specs.Prelude.{◌≡◌, true, List, [], ◌∷◌, ◌++◌, ℕ, ◌+◌, ◌≤◌, ◌<◌, length};
-ghost use Rattle.text_rules.specs.Bytes.{put_at};
+ghost use Rattle.std.specs.Prelude.{◌≡◌, List, [], ◌∷◌, ◌++◌, ℕ, ◌≤◌, ◌<◌, length};
 ghost use Rattle.text_rules.specs.Selection.{Placed, placed_from};
 ghost use Rattle.gate_rules.specs.Report.{Weight, heavier, weight_rows};
-ghost use Rattle.gate_rules.specs.Tree.{file_count, is_laid_out, path_of};
+ghost use Rattle.gate_rules.specs.Tree.{file_count};
+ghost use Rattle.listing.specs.Writes.{Room, Writes};
 ghost use Rattle.order.specs.Chosen.{Decides};
-ghost use Rattle.report_files.specs.Weights.{Known, weight_at};
-ghost use Rattle.report_files.specs.Files.{FileChosen, FileFit, Heavy, file_at, file_first, file_row, heaviest_files, listed};
+ghost use Rattle.report_files.specs.Weights.{weight_at};
+ghost use Rattle.report_files.specs.Files.{FileChosen, FileFit, IsFile, file_at, file_first, file_row, heaviest_files, listed, number_in};
+
+use listing::Writer;
+use std::marker::Model;
+use sums::Totals;
 
 // The path of a file.
-#[tactic(auto, unfolding(gate_rules::specs::Tree::path_of))]
-fn path_at<'a>(tree: &'a [u8], k: usize) -> &'a [u8]
-    requires { (is_laid_out tree.now ≡ true) × (k < file_count tree.now) }
-    ensures { result.now ≡ path_of tree.now k }
+fn path_at<'a>(totals: &Totals<'a>, k: usize) -> &'a [u8]
+    requires { k < file_count totals.now.tree.now }
+    ensures { (result.now ≡ (weight_at totals.now.tree.now k).path) × (length result.now ≤ 16777216) }
 {
-    layout::path(tree, k)
+    layout::path(totals.tree, k)
+}
+
+// Its sum.
+fn sum_at(totals: &Totals<'_>, k: usize) -> u32
+    requires { k < file_count totals.now.tree.now }
+    ensures { result ≡ (weight_at totals.now.tree.now k).sum }
+{
+    totals.of[k]
 }
 
 // The order of the files: by sum falling, and where it is the same by path bytes.
-fn is_heavier(tree: &[u8], of: &[u32], j: usize, k: usize) -> bool
-    requires { Known tree.now of.now × (j < file_count tree.now) × (k < file_count tree.now) }
-    ensures { result ≡ heavier (weight_at tree.now j) (weight_at tree.now k) }
+fn is_heavier(totals: &Totals<'_>, j: usize, k: usize) -> bool
+    requires { (j < file_count totals.now.tree.now) × (k < file_count totals.now.tree.now) }
+    ensures { result ≡ heavier (weight_at totals.now.tree.now j) (weight_at totals.now.tree.now k) }
 {
-    let sum = of[j];
-    let other = of[k];
+    let sum = sum_at(totals, j);
+    let other = sum_at(totals, k);
     if other < sum {
         return true;
     }
     if sum != other {
         return false;
     }
-    order::before(path_at(tree, j), path_at(tree, k))
+    order::before(path_at(totals, j), path_at(totals, k))
 }
 
 // The file j goes before k: it is heavier, and where neither is, it has the lower number.
-fn goes_first(tree: &[u8], of: &[u32], j: usize, k: usize) -> bool
-    requires { Known tree.now of.now × (j < file_count tree.now) × (k < file_count tree.now) }
-    ensures { result ≡ file_first tree.now j k }
+fn goes_first(totals: &Totals<'_>, j: usize, k: usize) -> bool
+    requires { (j < file_count totals.now.tree.now) × (k < file_count totals.now.tree.now) }
+    ensures { result ≡ file_first totals.now.tree.now j k }
 {
-    if is_heavier(tree, of, j, k) {
+    if is_heavier(totals, j, k) {
         return true;
     }
-    if is_heavier(tree, of, k, j) {
+    if is_heavier(totals, k, j) {
         return false;
     }
     j < k
 }
 
-// The file k has a function and is behind the last one listed. At first none is: then `last` is the number of files, `n`. A file with a function has a sum.
+// The file k has a function and is behind the last one listed. At first none is. A file with a function has a sum.
 #[tactic(auto, using(crate::proofs::Unlisted::unlisted))]
-fn is_next(tree: &[u8], of: &[u32], n: usize, last: usize, k: usize) -> bool
-    requires { Known tree.now of.now × (n ≡ file_count tree.now) × (last ≤ n) × (k < n) }
-    ensures { Decides (FileFit tree.now last (file_at tree.now k)) result }
+fn is_next(totals: &Totals<'_>, last: Option<usize>, k: usize) -> bool
+    requires { IsFile totals.now.tree.now last × (k < file_count totals.now.tree.now) }
+    ensures { Decides (FileFit totals.now.tree.now (number_in totals.now.tree.now last) (file_at totals.now.tree.now k)) result }
 {
-    if of[k] == 0 {
+    if sum_at(totals, k) == 0 {
         return false;
     }
-    if last == n {
-        return true;
+    match last {
+        Some(last) => goes_first(totals, last, k),
+        None => true,
     }
-    goes_first(tree, of, last, k)
 }
 
 // The next file among those seen so far, `best`, or k.
-fn better(tree: &[u8], of: &[u32], n: usize, last: usize, best: usize, k: usize) -> usize
-    requires { Known tree.now of.now × (n ≡ file_count tree.now) × (last ≤ n) × (best ≤ n) × (k < n) }
-    ensures { (result ≤ n)
-        × ((seen : List (Placed Weight)) → FileChosen tree.now last seen best
-        → FileChosen tree.now last (seen ++ file_at tree.now k ∷ []) result) }
+fn better(totals: &Totals<'_>, last: Option<usize>, best: Option<usize>, k: usize) -> Option<usize>
+    requires { IsFile totals.now.tree.now last × IsFile totals.now.tree.now best × (k < file_count totals.now.tree.now) }
+    ensures file { IsFile totals.now.tree.now result }
+    ensures chosen { (seen : List (Placed Weight))
+        → FileChosen totals.now.tree.now (number_in totals.now.tree.now last) seen (number_in totals.now.tree.now best)
+        → FileChosen totals.now.tree.now (number_in totals.now.tree.now last) (seen ++ file_at totals.now.tree.now k ∷ [])
+        (number_in totals.now.tree.now result) }
 {
-    if !is_next(tree, of, n, last, k) {
+    if !is_next(totals, last, k) {
         return best;
     }
-    if best == n {
-        return k;
-    }
-    if goes_first(tree, of, k, best) {
-        return k;
-    }
-    best
-}
-
-// The next file behind the last one listed; `n` where there is none.
-fn next_file(tree: &[u8], of: &[u32], n: usize, last: usize) -> usize
-    requires { Known tree.now of.now × (n ≡ file_count tree.now) × (last ≤ n) }
-    ensures { (result ≤ n) × FileChosen tree.now last (placed_from 0 (listed tree.now)) result }
-{
-    let mut best = n;
-    for k in 0..n {
-        best = better(tree, of, n, last, best, k);
-    }
-    best
-}
-
-// The numbers of the heaviest files, `count` of them.
-#[derive(Clone, Copy)]
-pub struct Heaviest {
-    pub count: usize,
-    pub files: [usize; 10],
-}
-
-// The heaviest files: at most ten passes over the files.
-pub fn heaviest_files(tree: &[u8], of: &[u32], n: usize) -> Heaviest
-    requires { Known tree.now of.now × (n ≡ file_count tree.now) }
-    ensures { Heavy tree.now result.count result.files }
-{
-    let mut files = [0usize; 10];
-    let mut last = n;
-    for done in 0..10 {
-        last = next_file(tree, of, n, last);
-        if last == n {
-            return Heaviest { count: done, files };
+    match best {
+        Some(other) => {
+            if goes_first(totals, k, other) {
+                Some(k)
+            } else {
+                best
+            }
         }
-        files[done] = last;
+        None => Some(k),
     }
-    Heaviest { count: 10, files }
+}
+
+// The next file behind the last one listed.
+fn next_file(totals: &Totals<'_>, last: Option<usize>) -> Option<usize>
+    requires { IsFile totals.now.tree.now last }
+    ensures file { IsFile totals.now.tree.now result }
+    ensures chosen { FileChosen totals.now.tree.now (number_in totals.now.tree.now last) (placed_from 0 (listed totals.now.tree.now))
+        (number_in totals.now.tree.now result) }
+{
+    let mut best = None;
+    for k in 0..layout::file_count(totals.tree) {
+        best = better(totals, last, best, k);
+    }
+    best
 }
 
 // The bytes of a file's row.
-fn file_row_length(tree: &[u8], of: &[u32], k: usize) -> usize
-    requires { Known tree.now of.now × (k < file_count tree.now) }
-    ensures { (result ≡ length (file_row (weight_at tree.now k))) × (result ≤ 4294967400) }
+fn file_row_length(totals: &Totals<'_>, k: usize) -> usize
+    requires { k < file_count totals.now.tree.now }
+    ensures { (result ≡ length (file_row (weight_at totals.now.tree.now k))) × (result ≤ 4294967400) }
 {
-    let sum = of[k];
-    report_rows::weight_row_length(sum, path_at(tree, k))
+    report_rows::weight_row_length(sum_at(totals, k), path_at(totals, k))
 }
 
 // The row of a file.
-fn put_file_row(tree: &[u8], of: &[u32], k: usize, out: &mut [u8], at: usize) -> usize
-    requires { Known tree.now of.now
-        × (k < file_count tree.now)
-        × (at + length (file_row (weight_at tree.now k)) ≤ length out.old) }
-    ensures { (result ≡ at + length (file_row (weight_at tree.now k)))
-        × (out.new ≡ put_at at (file_row (weight_at tree.now k)) out.old) }
+fn write_file_row(w: &mut Writer<'_>, totals: &Totals<'_>, k: usize)
+    requires { (k < file_count totals.now.tree.now) × Room (file_row (weight_at totals.now.tree.now k)) w.old }
+    ensures { Writes (file_row (weight_at totals.now.tree.now k)) w.old w.new }
 {
-    let sum = of[k];
-    report_rows::put_weight_row(out, at, sum, path_at(tree, k))
+    report_rows::write_weight_row(w, sum_at(totals, k), path_at(totals, k));
 }
 
-// The bytes of the heaviest files' rows.
-pub fn heaviest_length(tree: &[u8], of: &[u32], h: Heaviest) -> usize
-    requires { Known tree.now of.now × Heavy tree.now h.count h.files }
-    ensures { (result ≡ length (weight_rows (heaviest_files tree.now))) × (result ≤ 42949674000) }
-{
-    let count = h.count;
-    let files = h.files;
-    let mut bytes: usize = 0;
-    for i in 0..count {
-        let k = files[i];
-        bytes += file_row_length(tree, of, k);
-    }
-    bytes
+// The heaviest files by their numbers, at most ten. Clauses see their weights.
+#[derive(Drop)]
+pub struct Heaviest<'a> {
+    totals: &'a Totals<'a>,
+    count: usize,
+    files: [usize; 10],
 }
 
-// The rows of the heaviest files.
-pub fn put_heaviest(tree: &[u8], of: &[u32], h: Heaviest, out: &mut [u8], at: usize) -> usize
-    requires { Known tree.now of.now
-        × Heavy tree.now h.count h.files
-        × (at + length (weight_rows (heaviest_files tree.now)) ≤ length out.old) }
-    ensures { (result ≡ at + length (weight_rows (heaviest_files tree.now)))
-        × (out.new ≡ put_at at (weight_rows (heaviest_files tree.now)) out.old) }
-{
-    let count = h.count;
-    let files = h.files;
-    let mut end = at;
-    for i in 0..count {
-        let k = files[i];
-        end = put_file_row(tree, of, k, out, end);
+impl<'a> Model for Heaviest<'a> {
+    ghost use Rattle.std.specs.Prelude.{List};
+    ghost use Rattle.gate_rules.specs.Report.{Weight};
+
+    ghost Value = { List Weight };
+
+    ghost use Rattle.report_files.specs.Tops.{all_within, weights_in};
+
+    ghost view = { weights_in };
+
+    ghost invariant = { all_within };
+}
+
+impl<'a> Heaviest<'a> {
+    // At most ten passes over the files.
+    pub fn new(totals: &'a Totals<'a>) -> Heaviest<'a>
+        ensures { result ≡ heaviest_files totals.now.tree.now }
+    {
+        let mut files = [0usize; 10];
+        let mut last = None;
+        for done in 0..10 {
+            last = next_file(totals, last);
+            let Some(file) = last else {
+                return Heaviest {
+                    totals,
+                    count: done,
+                    files,
+                };
+            };
+            files[done] = file;
+        }
+        Heaviest {
+            totals,
+            count: 10,
+            files,
+        }
     }
-    end
+
+    // The bytes of their rows.
+    pub fn rows_length(&self) -> usize
+        ensures { (result ≡ length (weight_rows self.now)) × (result ≤ 42949674000) }
+    {
+        let mut bytes: usize = 0;
+        for k in &self.files[..self.count] {
+            bytes += file_row_length(self.totals, *k);
+        }
+        bytes
+    }
+
+    // Their rows.
+    pub fn write_rows(&self, w: &mut Writer<'_>)
+        requires { Room (weight_rows self.now) w.old }
+        ensures { Writes (weight_rows self.now) w.old w.new }
+    {
+        for k in &self.files[..self.count] {
+            write_file_row(w, self.totals, *k);
+        }
+    }
 }

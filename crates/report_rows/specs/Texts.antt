@@ -114,3 +114,6 @@ head-length count total over =
     ∷ ascii ", over the thresholds: " ∷ decimal over ∷ ascii "\n\ncyclo lines nest params  where\n"
     ∷ [])
     ∙ (omega (arith, mean-length total count))
+
+-- the lengths of all that is written, for the room that a writer needs
+pub ruleset lengths = (column-length, measured-length, row-size, weight-length, head-length, mean-length, justified-length)

@@ -1,12 +1,13 @@
-// What report writes: its first lines, a row for a function, a row for a file. Each writer puts its own bytes from `at` on and returns the place behind;
-// each length is told beforehand.
+// What report writes: its first lines, a row for a function, a row for a file. Each length is told beforehand.
 #![tactic(auto)]
 
 ghost use Rattle.std.specs.Prelude.{◌≡◌, ◌+◌, ◌≤◌, max, length};
-ghost use Rattle.text_rules.specs.Bytes.{put_at};
 ghost use Rattle.text_rules.specs.Decimal.{decimal};
 ghost use Rattle.gate_rules.specs.Report.{report_row};
+ghost use Rattle.listing.specs.Writes.{Room, Writes};
 ghost use Rattle.report_rows.specs.Texts.{column, column_length, fun_of, head, head_length, measured, measured_length, row_length, weight_length, weight_row};
+
+use listing::Writer;
 
 // What a row tells of a function, beside its path and its name.
 #[derive(Clone, Copy)]
@@ -19,24 +20,24 @@ pub struct Measures {
 }
 
 // A number, right-justified, and a space.
-fn put_column(out: &mut [u8], at: usize, width: usize, n: u32) -> usize
-    requires { at + column_length width n ≤ length out.old }
-    ensures { (result ≡ at + column_length width n) × (out.new ≡ put_at at (column width n) out.old) }
+fn write_column(w: &mut Writer<'_>, width: usize, n: u32)
+    requires { Room (column width n) w.old }
+    ensures { Writes (column width n) w.old w.new }
 {
-    let space = listing::put_justified(out, at, width, n as u64);
-    listing::put_text(out, space, b" ")
+    w.justified(width, n as u64);
+    w.text(b" ");
 }
 
 // The four columns of a row.
-fn put_measured(out: &mut [u8], at: usize, m: Measures) -> usize
-    requires { at + measured_length m ≤ length out.old }
-    ensures { (result ≡ at + measured_length m) × (out.new ≡ put_at at (measured m) out.old) }
+fn write_measured(w: &mut Writer<'_>, m: Measures)
+    requires { Room (measured m) w.old }
+    ensures { Writes (measured m) w.old w.new }
 {
-    let lines = put_column(out, at, 5, m.cyclomatic);
-    let nesting = put_column(out, lines, 5, m.lines);
-    let params = put_column(out, nesting, 4, m.nesting);
-    let blank = listing::put_justified(out, params, 6, m.params as u64);
-    listing::put_text(out, blank, b"  ")
+    write_column(w, 5, m.cyclomatic);
+    write_column(w, 5, m.lines);
+    write_column(w, 4, m.nesting);
+    w.justified(6, m.params as u64);
+    w.text(b"  ");
 }
 
 // The bytes of a right-justified number.
@@ -66,14 +67,14 @@ pub fn report_row_length(path: &[u8], name: &[u8], m: Measures) -> usize
 }
 
 // The row of a function.
-pub fn put_report_row(out: &mut [u8], at: usize, path: &[u8], name: &[u8], m: Measures) -> usize
-    requires { at + row_length path.now name.now m ≤ length out.old }
-    ensures { (result ≡ at + row_length path.now name.now m)
-        × (out.new ≡ put_at at (report_row (fun_of path.now name.now m)) out.old) }
+#[tactic(auto, using(crate::specs::Texts::lengths))]
+pub fn write_report_row(w: &mut Writer<'_>, path: &[u8], name: &[u8], m: Measures)
+    requires { Room (report_row (fun_of path.now name.now m)) w.old }
+    ensures { Writes (report_row (fun_of path.now name.now m)) w.old w.new }
 {
-    let place = put_measured(out, at, m);
-    let end = listing::put_location(out, place, path, m.line, name);
-    listing::put_text(out, end, b"\n")
+    write_measured(w, m);
+    w.location(path, m.line, name);
+    w.text(b"\n");
 }
 
 // The bytes of a file's row.
@@ -85,15 +86,14 @@ pub fn weight_row_length(sum: u32, path: &[u8]) -> usize
 }
 
 // The row of a file: its sum and its path.
-pub fn put_weight_row(out: &mut [u8], at: usize, sum: u32, path: &[u8]) -> usize
-    requires { at + weight_length sum path.now ≤ length out.old }
-    ensures { (result ≡ at + weight_length sum path.now)
-        × (out.new ≡ put_at at (weight_row sum path.now) out.old) }
+pub fn write_weight_row(w: &mut Writer<'_>, sum: u32, path: &[u8])
+    requires { Room (weight_row sum path.now) w.old }
+    ensures { Writes (weight_row sum path.now) w.old w.new }
 {
-    let blank = listing::put_justified(out, at, 6, sum as u64);
-    let place = listing::put_text(out, blank, b"  ");
-    let end = listing::put_text(out, place, path);
-    listing::put_text(out, end, b"\n")
+    w.justified(6, sum as u64);
+    w.text(b"  ");
+    w.text(path);
+    w.text(b"\n");
 }
 
 // The bytes of the first lines.
@@ -108,14 +108,14 @@ pub fn head_length(count: u32, total: u32, over: u32) -> usize
 }
 
 // The first lines: how many functions there are, their mean, how many are over the limits, and the names of the columns.
-pub fn put_head(out: &mut [u8], at: usize, count: u32, total: u32, over: u32) -> usize
-    requires { (total ≤ 16777216) × (at + head_length count total over ≤ length out.old) }
-    ensures { (result ≡ at + head_length count total over) × (out.new ≡ put_at at (head count total over) out.old) }
+pub fn write_head(w: &mut Writer<'_>, count: u32, total: u32, over: u32)
+    requires { (total ≤ 16777216) × Room (head count total over) w.old }
+    ensures { Writes (head count total over) w.old w.new }
 {
-    let words = listing::put_number(out, at, count as u64);
-    let average = listing::put_text(out, words, b" functions in src/\nmean cyclomatic ");
-    let limits = mean::put_mean(out, average, total, count);
-    let many = listing::put_text(out, limits, b", over the thresholds: ");
-    let names = listing::put_number(out, many, over as u64);
-    listing::put_text(out, names, b"\n\ncyclo lines nest params  where\n")
+    w.number(count as u64);
+    w.text(b" functions in src/\nmean cyclomatic ");
+    mean::write_mean(w, total, count);
+    w.text(b", over the thresholds: ");
+    w.number(over as u64);
+    w.text(b"\n\ncyclo lines nest params  where\n");
 }

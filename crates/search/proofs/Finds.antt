@@ -6,9 +6,9 @@ use Rattle.std.proofs.Common.{refl, sym, ap, ◌∙◌, arith, inl, inr, drop_of
 use Rattle.std.proofs.Math.ListN.{get_or-eq_default}
 use Rattle.std.proofs.Math.Option.{some}
 use Rattle.text_rules.specs.BytesLaws.{whether}
-use Rattle.text_rules.specs.Search.{find, run, starts_with}
+use Rattle.text_rules.specs.Search.{find, starts_with}
 use Rattle.text_rules.proofs.ScanLaws.{rest_part}
-use Rattle.seek.proofs.Library.{begins, run_prefix}
+use Rattle.seek.proofs.Library.{begins}
 use Rattle.search.specs.Place.{Absent, place_of}
 
 abbrev pub further_on : ℕ → Option ℕ → Option ℕ
@@ -43,10 +43,6 @@ found_at x from n s e =
 pub not_found : (x from : ℕ) (s : List ℕ) → None ≡ position (λ b. nat_eq b x) (take (length s - from) (drop from s)) → place_of None ≡ find x from (drop from s)
 not_found x from s e =
     sym (find_position x from (drop from s) ∙ ap (λ r. place_of (further_on from r)) (sym (e ∙ ap (position (λ b. nat_eq b x)) (rest_part s from))))
-
--- the end of a run
-pub run_from : (p : ℕ → Bool) (from n : ℕ) (s : List ℕ) → n ≡ prefix_len p (take (length s - from) (drop from s)) → run p (drop from s) ≡ n
-run_from p from n s e = run_prefix p (drop from s) ∙ sym (e ∙ ap (prefix_len p) (rest_part s from))
 
 -- the word at a place, or at the end where the place is behind it
 pub begins_from : (from at : ℕ) (word s : List ℕ) → at ≡ min from (length s) → begins_with nat_eq (take (length s - at) (drop at s)) word ≡ starts_with word (drop from s)

@@ -10,6 +10,7 @@ use super::{Met, partner_before};
 use std::marker::Model;
 
 // The last `x`.
+// Kept: the library goes through a list from its two ends by two methods, so `first` and `last` are two functions.
 fn last(s: &[u8], x: u8) -> Option<usize>
     ensures { MatchOption result ((k : ℕ) → k < length s.now → slice_index s.now k ≢ x) (λ i. (i < length s.now) × ((k : ℕ) → i < k → k < length s.now → slice_index s.now k ≢ x)) }
 {

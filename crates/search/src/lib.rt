@@ -1,9 +1,9 @@
-// Searches in a blanked text: a byte, a bracket's partner, the ends of white space and of a word, the word `fn`, and the mark of test code. What is known
-// of braces is kept, so that a text of many that are never closed is not read to its end for each.
+// Searches in a blanked text: a byte, a bracket's partner, the ends of white space and of a word, the word `fn`, and the mark of test code. What is
+// known of braces is kept, so that a text of many that are never closed is not read to its end for each.
 #![tactic(auto)]
 
 ghost use Rattle.std.specs.Prelude.{◌==◌, ◌≡◌, ◌≢◌, ◌∷◌, ◌+◌, ◌≤◌, length, get_or, drop};
-ghost use Rattle.std.specs.List.{position, prefix_len};
+ghost use Rattle.std.specs.List.{position};
 ghost use Rattle.text_rules.specs.Bytes.{ascii};
 ghost use Rattle.text_rules.specs.Classes.{is_space, is_word};
 ghost use Rattle.text_rules.specs.Search.{find, run, starts_with};
@@ -33,6 +33,7 @@ pub fn find(s: &[u8], x: u8, from: usize) -> Option<usize>
 }
 
 // What a search for a partner meets up to a place: the partner, or the brackets that are open there.
+// Kept: neither is a failure, and a result of two numbers would not say which of them is the place.
 #[derive(Clone, Copy)]
 pub enum Met {
     Partner(usize),
@@ -40,6 +41,7 @@ pub enum Met {
 }
 
 // The partner of a bracket, sought from one place up to another, with so many brackets open inside it.
+// Kept: the two bytes are parameters. Each caller writes them once, as constants, and a struct of them would be taken apart here.
 pub fn partner_before(
     s: &[u8],
     opening: u8,
@@ -66,42 +68,24 @@ pub fn partner_before(
     Met::Depth(inner)
 }
 
-// How many bytes of white space a text begins with.
-fn spaces(s: &[u8]) -> usize
-    ensures count { result ≡ prefix_len is_space s.now }
-    ensures inside { result ≤ length s.now }
-{
-    s.iter().take_while(|b| classes::is_space(**b)).count()
-}
-
 // The end of the white space that begins at a place.
-#[tactic(auto, using(crate::proofs::Finds::run_from))]
 pub fn space_end(s: &[u8], from: usize) -> usize
     requires { from ≤ length s.now }
     ensures end { result ≡ from + run is_space (drop from s.now) }
     ensures behind { from ≤ result }
     ensures inside { result ≤ length s.now }
 {
-    from + spaces(&s[from..])
-}
-
-// How long the word is that a text begins with.
-fn word_len(s: &[u8]) -> usize
-    ensures count { result ≡ prefix_len is_word s.now }
-    ensures inside { result ≤ length s.now }
-{
-    s.iter().take_while(|b| classes::is_word(**b)).count()
+    seek::end_while(s, from, |b| classes::is_space(b))
 }
 
 // The end of the word that begins at a place.
-#[tactic(auto, using(crate::proofs::Finds::run_from))]
 pub fn word_end(s: &[u8], from: usize) -> usize
     requires { from ≤ length s.now }
     ensures end { result ≡ from + run is_word (drop from s.now) }
     ensures behind { from ≤ result }
     ensures inside { result ≤ length s.now }
 {
-    from + word_len(&s[from..])
+    seek::end_while(s, from, |b| classes::is_word(b))
 }
 
 // Whether the given bytes stand at a place.

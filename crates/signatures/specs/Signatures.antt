@@ -9,11 +9,25 @@ use Rattle.flat.specs.declared.Counts.{Counts}
 use Rattle.chunks.specs.Passing.{TellsDepth}
 use Rattle.memo.specs.Memo.{Recalls, Tells, number_for}
 use Rattle.parts.specs.Told.{Lent, NoBody, Told, body_behind, never, no-brace, no_end, sought_from}
+use Rattle.signatures.specs.declared.Notes.{Notes}
 use Rattle.signatures.specs.declared.Signature.{Signature}
 
 -- what is lent to searches in a text, and the searches for a body that are kept
 abbrev pub Lends : (s m t f : List ℕ) → Type 0
 Lends s m t f = Lent s m t × Recalls s f
+
+-- the same of what a struct holds
+abbrev pub LendsIn : List ℕ → Notes → Type 0
+LendsIn s n = Lends s n.brackets n.sums n.kept
+
+-- the lists are as long as they are said to be
+pub record Rooms (n : Notes) : Type 0 where
+  pub brackets_room : length n.brackets ≡ 4099
+  pub sums_room : length n.sums ≡ 36865
+  pub kept_room : length n.kept ≡ 259
+
+pub lent_rooms : (s : List ℕ) (n : Notes) → LendsIn s n → Rooms n
+lent_rooms s n l = record { brackets_room = l.0.0.room; sums_room = l.0.1.room; kept_room = l.1.room }
 
 -- a search goes on behind a chunk that it passes
 pub sought-past : (s : List ℕ) (at depth d : ℕ) → TellsDepth s at depth (Some d) → sought_from s at depth ≡ sought_from s (at + 4096) d

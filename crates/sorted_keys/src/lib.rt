@@ -1,141 +1,115 @@
-// At most 8,192 keys in byte order, each once. They stay where they are, in a text: two lent arrays hold where they start and end. A key more is put in at
-// its place, which is found by halves.
+// At most 8,192 keys in byte order, each once. They stay where they are, in a text, and are kept by their bounds. A key more is put in at its place,
+// which is found by halves.
 #![tactic(auto)]
 
-ghost use Rattle.std.specs.Prelude.{◌≡◌, ◌&&◌, ◌+◌, ◌≤◌, min, ltb, length, take};
-ghost use Rattle.text_rules.specs.Bytes.{before, same};
+ghost use Rattle.std.specs.Prelude.{◌≡◌, ◌&&◌, ltb, [], List, ℕ, ◌+◌, ◌≤◌, ◌<◌, length, take, get_or};
+ghost use Rattle.text_rules.specs.Bytes.{same};
 ghost use Rattle.text_rules.specs.Search.{part};
-ghost use Rattle.sorted_keys.specs.Held.{Bounds, Held, Holds, key_at, keys_at};
-ghost use Rattle.sorted_keys.specs.Insert.{insert, insert_at, place_of};
+ghost use Rattle.sorted_keys.specs.Held.{Held, Holds, Put, keys_of, no_place};
+ghost use Rattle.sorted_keys.specs.Insert.{insert, place_of};
 
-// How many keys the arrays hold.
-const MOST: usize = 8192;
+use baseline::Span;
 
-pub fn wide(place: u32) -> usize
-    ensures { result ≡ place }
-{
-    place as usize
+// How many keys there may be.
+pub const MOST: usize = 8192;
+
+// The bounds of a key, in half the room of a span.
+#[derive(Clone, Copy)]
+pub struct Place {
+    pub from: u32,
+    pub to: u32,
 }
 
-// ---- keys by their bounds
-
-// Whether the key with a number stands before another one.
-fn stands_before(
-    lines: &[u8],
-    starts: &[u32],
-    ends: &[u32],
-    i: usize,
-    from: usize,
-    to: usize,
-) -> bool
-    requires { Bounds lines.now starts.now ends.now i × (from ≤ to) × (to ≤ length lines.now) }
-    ensures { result ≡ before (key_at lines.now starts.now ends.now i) (part from to lines.now) }
-{
-    let a = wide(starts[i]);
-    let b = wide(ends[i]);
-    order::before(&lines[a..b], &lines[from..to])
+// Kept: an array with its count, since no call takes memory beside what is lent.
+#[derive(Drop)]
+pub struct Keys {
+    pub places: [Place; 8192],
+    pub count: usize,
 }
 
-// Whether it is the other one.
-fn is_key(lines: &[u8], starts: &[u32], ends: &[u32], i: usize, from: usize, to: usize) -> bool
-    requires { Bounds lines.now starts.now ends.now i × (from ≤ to) × (to ≤ length lines.now) }
-    ensures { result ≡ same (key_at lines.now starts.now ends.now i) (part from to lines.now) }
-{
-    let a = wide(starts[i]);
-    let b = wide(ends[i]);
-    order::same_bytes(&lines[a..b], &lines[from..to])
-}
-
-// ---- a key put in
-
-// How many of the m keys stand before a key. They rise, so it is found by halves.
-fn place_of(lines: &[u8], starts: &[u32], ends: &[u32], m: usize, from: usize, to: usize) -> usize
-    requires { Held lines.now starts.now ends.now m × (from ≤ to) × (to ≤ length lines.now) }
-    ensures { (result ≡ place_of (part from to lines.now) (keys_at lines.now starts.now ends.now m))
-        × (result ≤ m) }
-{
-    let mut lo: usize = 0;
-    let mut hi = m;
-    while lo < hi {
-        let middle = lo + (hi - lo) / 2;
-        if stands_before(lines, starts, ends, middle, from, to) {
-            lo = middle + 1;
-        } else {
-            hi = middle;
+impl Keys {
+    // No key.
+    pub fn none() -> Keys
+        ensures { (s : List ℕ) → Holds s result [] }
+    {
+        Keys {
+            places: [Place { from: 0, to: 0 }; 8192],
+            count: 0,
         }
     }
-    lo
-}
 
-// Whether one of the m keys stands at that place and is the key.
-fn stands_there(
-    lines: &[u8],
-    starts: &[u32],
-    ends: &[u32],
-    m: usize,
-    at: usize,
-    from: usize,
-    to: usize,
-) -> bool
-    requires { Held lines.now starts.now ends.now m × (from ≤ to) × (to ≤ length lines.now) }
-    ensures { result ≡ (ltb at m && same (key_at lines.now starts.now ends.now at) (part from to lines.now)) }
-{
-    if at < m {
-        return is_key(lines, starts, ends, at, from, to);
+    // The bounds of the key with a number.
+    pub fn span(&self, i: usize) -> Span
+        requires { i < length self.now.places }
+        ensures from { result.from ≡ (get_or self.now.places i no_place).from }
+        ensures to { result.to ≡ (get_or self.now.places i no_place).to }
+    {
+        let place = self.places[i];
+        Span {
+            from: place.from as usize,
+            to: place.to as usize,
+        }
     }
-    false
-}
 
-// A place put in at a number: those from there on move by one, up to `count` of them all, and the one behind is dropped.
-fn put_in(places: &mut [u32], count: usize, at: usize, place: u32)
-    requires { (at ≤ count) × (count ≤ length places.old) }
-    ensures { (take count places.new ≡ take count (insert_at at place places.old))
-        × (length places.new ≡ length places.old) }
-{
-    let mut carried = place;
-    for i in at..count {
-        let next = places[i];
-        places[i] = carried;
-        carried = next;
+    // Its bytes.
+    pub fn key<'a>(&self, lines: &'a [u8], i: usize) -> &'a [u8]
+        requires held { Held lines.now self.now }
+        requires inside { i < self.now.count }
+        ensures { result.now ≡ get_or (keys_of lines.now self.now) i [] }
+    {
+        self.span(i).of(lines)
     }
-}
 
-// One key more, while there is a place for it.
-fn one_more(m: usize) -> usize
-    requires { m ≤ 8192 }
-    ensures { result ≡ min (m + 1) 8192 }
-{
-    if m < MOST {
-        return m + 1;
+    // How many keys stand before a key. They rise, so it is found by halves.
+    fn place_of(&self, lines: &[u8], bytes: &[u8]) -> usize
+        requires { Held lines.now self.now }
+        ensures place { result ≡ place_of bytes.now (keys_of lines.now self.now) }
+        ensures few { result ≤ self.now.count }
+    {
+        halving::boundary(self.count, |i| order::before(self.key(lines, i), bytes))
     }
-    MOST
-}
 
-// A key put in among the m keys at its place, if it does not stand there yet. Where all places are taken, the last key is dropped.
-pub fn insert(
-    lines: &[u8],
-    starts: &mut [u32],
-    ends: &mut [u32],
-    m: usize,
-    from: usize,
-    to: usize,
-) -> usize
-    requires { Held lines.now starts.old ends.old m
-        × (from ≤ to)
-        × (to ≤ length lines.now)
-        × (length lines.now ≤ 33554432) }
-    ensures { Holds lines.now starts.new ends.new result
-        (take 8192 (insert (part from to lines.now) (keys_at lines.now starts.old ends.old m))) }
-{
-    let at = place_of(lines, starts, ends, m, from, to);
-    if at == MOST {
-        return m;
+    // Whether a key stands at a number.
+    fn stands_at(&self, lines: &[u8], at: usize, bytes: &[u8]) -> bool
+        requires { Held lines.now self.now }
+        ensures { result ≡ (ltb at self.now.count && same (get_or (keys_of lines.now self.now) at []) bytes.now) }
+    {
+        at < self.count && order::same_bytes(self.key(lines, at), bytes)
     }
-    if stands_there(lines, starts, ends, m, at, from, to) {
-        return m;
+
+    // A key put in at a number: those from there on move by one, and the one behind the last place is dropped.
+    fn put_in(&mut self, at: usize, place: Place)
+        requires { (at ≤ self.old.count) × (at < 8192) × (self.old.count ≤ 8192) }
+        ensures { Put at place self.old self.new }
+    {
+        let count = (self.count + 1).min(MOST);
+        self.places[at..count].rotate_right(1);
+        self.places[at] = place;
+        self.count = count;
     }
-    let count = one_more(m);
-    put_in(starts, count, at, from as u32);
-    put_in(ends, count, at, to as u32);
-    count
+
+    // A key put in at its place, if it does not stand there yet. Where all places are taken, the last key is dropped.
+    pub fn insert(&mut self, lines: &[u8], key: Span)
+        requires { Held lines.now self.old
+            × (key.from ≤ key.to)
+            × (key.to ≤ length lines.now)
+            × (length lines.now ≤ 33554432) }
+        ensures { Holds lines.now self.new (take 8192 (insert (part key.from key.to lines.now) (keys_of lines.now self.old))) }
+    {
+        let bytes = key.of(lines);
+        let at = self.place_of(lines, bytes);
+        if at == MOST {
+            return;
+        }
+        if self.stands_at(lines, at, bytes) {
+            return;
+        }
+        self.put_in(
+            at,
+            Place {
+                from: key.from as u32,
+                to: key.to as u32,
+            },
+        );
+    }
 }

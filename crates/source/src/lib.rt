@@ -8,14 +8,14 @@ ghost use Rattle.std.proofs.Math.Option.{none};
 ghost use Rattle.text_rules.specs.Classes.{brace_open, lf};
 ghost use Rattle.text_rules.specs.Search.{count_after};
 ghost use Rattle.source_rules.specs.Finding.{function_at, function_from};
-ghost use Rattle.signatures.specs.Signatures.{Lends};
+ghost use Rattle.signatures.specs.Signatures.{LendsIn};
 ghost use Rattle.source_rules.specs.TextScan.{functions};
 ghost use Rattle.source.specs.Cursors.{Barren, Blocked, Closed, FoundAt, Measures, Quieter, Ready, Signed, SpanAt, Stepped, Turned, moved_to, remaining, sought_at};
 
 use measures::{Body, Walked};
 use passing::Spot;
 use search::Braces;
-use signatures::Signature;
+use signatures::{Notes, Signature};
 
 // Where the search for functions stands in a text.
 #[derive(Drop)]
@@ -104,27 +104,20 @@ fn is_behind_braces(braces: &Braces, to: usize) -> bool
     braces.last_opening <= to || braces.last_closing <= to
 }
 
-// The brackets after a name that ends at `to`, each of them sought. Where not all four are there, they are not there either after any other name that ends
-// from there up to the place that is told.
-fn signature_sought(
-    braces: &mut Braces,
-    to: usize,
-    noted: &mut [u32; 4099],
-    sums: &mut [u16; 36865],
-    kept: &mut [usize; 259],
-) -> Result<Brackets, usize>
-    requires { Lends braces.old noted.old sums.old kept.old }
+// The brackets after a name that ends at `to`, each of them sought. Where not all four are there, they are not there either after any other name
+// that ends from there up to the place that is told.
+fn signature_sought(braces: &mut Braces, to: usize, notes: &mut Notes) -> Result<Brackets, usize>
+    requires { LendsIn braces.old notes.old }
     ensures signed { Signed braces.old to result }
     ensures same { braces.new ≡ braces.old }
-    ensures lent { Lends braces.old noted.new sums.new kept.new }
+    ensures lent { LendsIn braces.old notes.new }
 {
     let s = braces.text();
     let Some(opened) = search::find(s, b'(', to) else {
         return Err(s.len());
     };
     let inside = opened + 1;
-    let Some(Signature { closed, body }) = signatures::brackets_after(s, inside, noted, sums, kept)
-    else {
+    let Some(Signature { closed, body }) = signatures::brackets_after(s, inside, notes) else {
         return Err(inside);
     };
     let block = block_at(braces, body);
@@ -141,22 +134,16 @@ fn signature_sought(
 }
 
 // The same. Behind the last `{` or the last `}` no name is a function's, and nothing is sought.
-fn signature_at(
-    braces: &mut Braces,
-    to: usize,
-    noted: &mut [u32; 4099],
-    sums: &mut [u16; 36865],
-    kept: &mut [usize; 259],
-) -> Result<Brackets, usize>
-    requires { Lends braces.old noted.old sums.old kept.old }
+fn signature_at(braces: &mut Braces, to: usize, notes: &mut Notes) -> Result<Brackets, usize>
+    requires { LendsIn braces.old notes.old }
     ensures signed { Signed braces.old to result }
     ensures same { braces.new ≡ braces.old }
-    ensures lent { Lends braces.old noted.new sums.new kept.new }
+    ensures lent { LendsIn braces.old notes.new }
 {
     if is_behind_braces(braces, to) {
         return Err(braces.text().len());
     }
-    signature_sought(braces, to, noted, sums, kept)
+    signature_sought(braces, to, notes)
 }
 
 // The function on a line whose name stands from one place up to another.
@@ -185,8 +172,8 @@ fn quiet_end(s: &[u8], from: Spot, span_end: usize, resume: usize) -> Spot
 {
     let n = s.len();
     let a = from.pass_all(s, span_end.min(n));
-    let b = a.pass_others(s, resume.min(n), b'#', b'#');
-    b.pass_others(s, n, b'#', b'f')
+    let b = a.pass_while(s, resume.min(n), |b| b != b'#');
+    b.pass_while(s, n, |b| b != b'#' && b != b'f')
 }
 
 // The start of a text.
@@ -209,18 +196,13 @@ pub fn start(s: &[u8]) -> Cursor
 
 impl<'a> Cursor<'a> {
     // The function whose `fn` stands at the next byte.
-    fn measure(
-        &mut self,
-        noted: &mut [u32; 4099],
-        sums: &mut [u16; 36865],
-        kept: &mut [usize; 259],
-    ) -> Option<Found>
+    fn measure(&mut self, notes: &mut Notes) -> Option<Found>
         requires inside { self.old.at + 2 ≤ length self.old.braces }
         requires barren { Barren self.old.braces self.old.barren_from self.old.barren_to }
-        requires lent { Lends self.old.braces noted.old sums.old kept.old }
+        requires lent { LendsIn self.old.braces notes.old }
         ensures measured { Measures self.old.braces self.old result self.new }
         ensures others { self.new ≡ record self.old { resume = self.new.resume; barren_from = self.new.barren_from; barren_to = self.new.barren_to } }
-        ensures lent { Lends self.old.braces noted.new sums.new kept.new }
+        ensures lent { LendsIn self.old.braces notes.new }
     {
         let s = self.braces.text();
         let from = search::space_end(s, self.at + 2);
@@ -234,7 +216,7 @@ impl<'a> Cursor<'a> {
                 return None;
             }
         }
-        let signature = signature_at(&mut self.braces, to, noted, sums, kept);
+        let signature = signature_at(&mut self.braces, to, notes);
         match signature {
             Err(n) => {
                 self.barren_from = to;
@@ -305,40 +287,29 @@ impl<'a> Cursor<'a> {
     }
 
     // Past the next byte, with the function that begins there.
-    fn turn_at(
-        &mut self,
-        noted: &mut [u32; 4099],
-        sums: &mut [u16; 36865],
-        kept: &mut [usize; 259],
-    ) -> Option<Found>
+    fn turn_at(&mut self, notes: &mut Notes) -> Option<Found>
         requires inside { self.old.at < length self.old.braces }
         requires ready { Ready self.old.braces self.old }
-        requires lent { Lends self.old.braces noted.old sums.old kept.old }
+        requires lent { LendsIn self.old.braces notes.old }
         ensures turned { Turned self.old.braces self.old result self.new }
-        ensures lent { Lends self.old.braces noted.new sums.new kept.new }
+        ensures lent { LendsIn self.old.braces notes.new }
     {
         self.open_span();
         if !self.is_sought() {
             self.step();
             return None;
         }
-        let found = self.measure(noted, sums, kept);
+        let found = self.measure(notes);
         self.step();
         found
     }
 
-    // The next function of the text. The arrays hold what is noted of the brackets that follow its names, the sums of its chunks, and what the last long
-    // searches for a body found.
-    pub fn next(
-        &mut self,
-        noted: &mut [u32; 4099],
-        sums: &mut [u16; 36865],
-        kept: &mut [usize; 259],
-    ) -> Option<Found>
+    // The next function of the text.
+    pub fn next(&mut self, notes: &mut Notes) -> Option<Found>
         requires ready { Ready self.old.braces self.old }
-        requires lent { Lends self.old.braces noted.old sums.old kept.old }
+        requires lent { LendsIn self.old.braces notes.old }
         ensures stepped { Stepped self.old.braces self.old result self.new }
-        ensures lent { Lends self.old.braces noted.new sums.new kept.new }
+        ensures lent { LendsIn self.old.braces notes.new }
     {
         let s = self.braces.text();
         // Kept: a turn passes a run of bytes of any length, so no `for` counts the turns.
@@ -353,7 +324,7 @@ impl<'a> Cursor<'a> {
             if self.at == s.len() {
                 return None;
             }
-            let found = self.turn_at(noted, sums, kept);
+            let found = self.turn_at(notes);
             if found.is_some() {
                 return found;
             }

@@ -1,86 +1,68 @@
-// The stale keys: those of entries that no function of the tree has, each once and in byte order of the whole key. Where the keys of the baseline never
-// fall, as in a file that update wrote, they are taken as they stand there; elsewhere batch by batch. They are measured first, so that a caller knows
-// how many bytes their lines take before any of them is written.
+// The stale keys: those of entries that no function of the tree has, each once and in byte order of the whole key. Where the keys of the baseline
+// never fall, as in a file that update wrote, they are taken as they stand there; elsewhere batch by batch. They are measured first, so that a caller
+// knows how many bytes their lines take before any of them is written.
 #![tactic(auto)]
 
-ghost use Rattle.std.specs.Prelude.{◌≡◌, true, ◌+◌, ◌≤◌, length};
+ghost use Rattle.std.specs.Prelude.{◌≡◌, true, ◌≤◌, length};
 ghost use Rattle.text_rules.specs.Utf8.{is_utf8};
-ghost use Rattle.baseline.specs.Ordered.{Unfalling, keys_in};
-ghost use Rattle.listed_keys.specs.KeyLines.{Sizes, Written, key_lines};
-ghost use Rattle.in_order.specs.StaleKeys.{AllStand, stale_in};
-ghost use Rattle.in_order.specs.Whole.{Whole};
+ghost use Rattle.listing.specs.Writes.{Room, Writes};
+ghost use Rattle.listed_keys.specs.KeyLines.{Sizes, key_lines};
+ghost use Rattle.in_order.specs.StaleKeys.{stale_in};
+ghost use Rattle.stale.specs.Known.{Known};
 
-use in_order::{Gone, Size};
+use functions::Functions;
+use listing::{Size, Writer};
 
-// How many there are, and the bytes of their lines, where the keys of the baseline stand in any order.
-fn measure_in_batches(tree: &[u8], lent: &[u8], n: usize, lines: &[u8]) -> Size
-    requires { AllStand tree.now lent.now n × (is_utf8 lines.now ≡ true) × (length lines.now ≤ 33554432) }
-    ensures { Sizes result.count result.bytes (stale_in tree.now lines.now) }
-{
-    let mut starts = [0u32; 8192];
-    let mut ends = [0u32; 8192];
-    batches::measure(tree, lent, n, lines, &mut starts, &mut ends)
+// What is known of the order of a baseline's keys.
+#[derive(Clone, Copy)]
+pub enum KeyOrder {
+    // No key falls, and all of them are stale: each line is plain or starts with #.
+    AllStale,
+    // No key falls.
+    Rising,
+    // Nothing is known.
+    Any,
 }
 
-// Their lines.
-fn put_in_batches(
-    tree: &[u8],
-    lent: &[u8],
-    n: usize,
-    lines: &[u8],
-    out: &mut [u8],
-    at: usize,
-) -> usize
-    requires { AllStand tree.now lent.now n
-        × (length lines.now ≤ 33554432)
-        × (at + length (key_lines (stale_in tree.now lines.now)) ≤ length out.old) }
-    ensures { Written at (stale_in tree.now lines.now) out.old result out.new }
-{
-    let mut starts = [0u32; 8192];
-    let mut ends = [0u32; 8192];
-    batches::put_all(tree, lent, n, lines, &mut starts, &mut ends, out, at)
+// The order of the keys, and the size of the lines of the stale ones.
+#[derive(Clone, Copy)]
+pub struct Stale {
+    pub order: KeyOrder,
+    pub size: Size,
 }
 
-// How many stale keys there are, the bytes of their lines, and whether no key of the baseline falls.
-pub fn measure(tree: &[u8], lent: &[u8], n: usize, lines: &[u8]) -> Gone
-    requires { AllStand tree.now lent.now n × (is_utf8 lines.now ≡ true) × (length lines.now ≤ 33554432) }
-    ensures { (result.ordered ≡ true → Unfalling (keys_in lines.now))
-        × Sizes result.count result.bytes (stale_in tree.now lines.now)
-        × (result.whole ≡ true → Whole tree.now lines.now) }
+// How many stale keys there are, the bytes of their lines, and the order of the baseline's keys.
+pub fn measure(fs: Functions, lines: &[u8]) -> Stale
+    requires { (is_utf8 lines.now ≡ true) × (length lines.now ≤ 33554432) }
+    ensures known { Known result.order fs.entry.tree.now lines.now }
+    ensures sizes { Sizes result.size.count result.size.bytes (stale_in fs.entry.tree.now lines.now) }
 {
-    let gone = in_order::measure(tree, lent, n, lines);
-    if gone.ordered {
-        return gone;
-    }
-    let size = measure_in_batches(tree, lent, n, lines);
-    Gone {
-        ordered: false,
-        whole: false,
-        count: size.count,
-        bytes: size.bytes,
+    match in_order::measure(fs, lines) {
+        Some(gone) if gone.whole => Stale {
+            order: KeyOrder::AllStale,
+            size: gone.size,
+        },
+        Some(gone) => Stale {
+            order: KeyOrder::Rising,
+            size: gone.size,
+        },
+        None => Stale {
+            order: KeyOrder::Any,
+            size: batches::measure(fs, lines),
+        },
     }
 }
 
 // The lines of the stale keys.
-pub fn put_all(
-    tree: &[u8],
-    lent: &[u8],
-    n: usize,
-    lines: &[u8],
-    ordered: bool,
-    whole: bool,
-    out: &mut [u8],
-    at: usize,
-) -> usize
-    requires { AllStand tree.now lent.now n
-        × (length lines.now ≤ 33554432)
-        × (at + length (key_lines (stale_in tree.now lines.now)) ≤ length out.old)
-        × (ordered ≡ true → Unfalling (keys_in lines.now))
-        × (whole ≡ true → Whole tree.now lines.now) }
-    ensures { Written at (stale_in tree.now lines.now) out.old result out.new }
+pub fn write_all(fs: Functions, lines: &[u8], order: KeyOrder, w: &mut Writer<'_>)
+    requires short { length lines.now ≤ 33554432 }
+    requires room { Room (key_lines (stale_in fs.tree.now lines.now)) w.old }
+    requires known { Known order fs.tree.now lines.now }
+    ensures { Writes (key_lines (stale_in fs.entry.tree.now lines.now)) w.old w.new }
 {
-    if ordered {
-        return in_order::put_all(tree, lent, n, lines, whole, out, at);
+    match order {
+        KeyOrder::AllStale => in_order::write_all(fs, lines, true, w),
+        KeyOrder::Rising => in_order::write_all(fs, lines, false, w),
+        KeyOrder::Any => batches::write_all(fs, lines, w),
     }
-    put_in_batches(tree, lent, n, lines, out, at)
 }

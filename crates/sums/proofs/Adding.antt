@@ -21,7 +21,7 @@ use Rattle.gate_rules.proofs.TreeLaws.{laid_out, unrefused}
 use Rattle.gate_rules.proofs.TreeSizes.{tree_branches}
 use Rattle.functions.specs.Shown.{Stand}
 use Rattle.functions.proofs.Read.{tells-here}
-use Rattle.sums.specs.Sums.{Sums}
+use Rattle.sums.specs.Known.{Sums}
 
 -- the number of a function's file
 pub file-small : (tree lent : List ℕ) → Stand tree lent → (k : ℕ) → k < length (functions_of gate tree) → get_or (get_or (records tree) k []) 0 0 < 1024

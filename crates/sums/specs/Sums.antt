@@ -1,8 +1,6 @@
 -- The sums of the files as the code holds them, and the table's entries that tell of them.
-use Rattle.std.specs.Prelude.{ℕ, zero, suc, ◌<◌, ◌≡◌, List, [], ◌∷◌, ◌++◌, length, get_or}
-use Rattle.gate_rules.specs.Records.{records}
+use Rattle.std.specs.Prelude.{ℕ, zero, suc, List, [], ◌∷◌, ◌++◌, get_or}
 use Rattle.gate_rules.specs.Report as rules
-use Rattle.gate_rules.specs.SumOver.{sum_over}
 use Rattle.sums.specs.declared.FileSum.{FileSum}
 
 abbrev pub entry : ℕ → ℕ → FileSum
@@ -18,11 +16,6 @@ stored e = entry e.file e.sum
 
 abbrev pub told : FileSum → rules.FileSum
 told e = record { file = e.file; sum = e.sum }
-
--- at each number below 1,024 stands the sum of the file with that number
-pub record Sums (tree of : List ℕ) : Type 0 where
-  pub size : length of ≡ 1024
-  pub sum_of : (k : ℕ) → k < 1024 → get_or of k 0 ≡ sum_over k (records tree)
 
 -- the first n entries
 unfoldable pub first_entries : List ℕ → ℕ → List FileSum

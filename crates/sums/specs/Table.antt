@@ -15,7 +15,8 @@ use Rattle.gate_rules.specs.Report.{sums_from}
 use Rattle.gate_rules.specs.ReportCall.{sums_of}
 use Rattle.gate_rules.proofs.SumLaws.{file-sum, no_sum}
 use Rattle.gate_rules.specs.Tree.{file_count, sources, sources_from}
-use Rattle.sums.specs.Sums.{Sums, entry, first_entries, none, stored}
+use Rattle.sums.specs.Known.{Sums}
+use Rattle.sums.specs.Sums.{entry, first_entries, none, stored}
 use Rattle.sums.specs.declared.FileSum.{FileSum}
 
 -- there is an entry for each file

@@ -1,5 +1,5 @@
 -- One step of the search for each token's end, at a place `i` of a text `s`: what the loops cite. Each is its definition at the byte there.
-use mathlib.Core.Path.{◌≡◌}
+use mathlib.Core.Path.{◌≡◌, refl}
 use mathlib.Core.Logic.{◌≢◌}
 use mathlib.Core.Bool.{Bool, true, false, ◌&&◌}
 use mathlib.Core.List.{List}
@@ -7,6 +7,7 @@ use Prim.Native.Nat.{ℕ, suc, ◌+◌, ◌≤◌, ◌<◌}
 use native.Mathlib.Numerals.{add-one}
 use borrow.Author.Tests.{eq-eqb, ne_eqb, le-leb, lt-leb}
 use lib.Dec.{eqb}
+use mathlib.Core.Bool.{Bool, true, false, not, ◌&&◌, and-false}
 use lib.ListN.{length, get_or, drop, drop_of_length-le}
 use Rattle.text_rules.specs.Classes.{backslash, hash, quote, slash, star}
 use Rattle.text_rules.proofs.ScanLaws.{run_more, run-stop, split}
@@ -77,3 +78,14 @@ module _ (s : List ℕ) (i : ℕ) (h : length s ≤ i) where
   pub raw_end : (n : ℕ) → raw_length n (drop i s) ≡ 0
   unfolding raw_length
   raw_end n = rw (drop_of_length-le s h)
+
+-- two bytes are a given pair, or one of them is another
+module _ (a b x y : ℕ) where
+  pub pair_there : a ≡ x → b ≡ y → (eqb a x && eqb b y) ≡ true
+  pair_there e f = rw (eq-eqb a x e, eq-eqb b y f) refl
+
+  pub other-first : a ≢ x → (eqb a x && eqb b y) ≡ false
+  other-first e = rw (ne_eqb a x e) refl
+
+  pub other-second : b ≢ y → (eqb a x && eqb b y) ≡ false
+  other-second e = rw (ne_eqb b y e) (and-false (eqb a x))

@@ -1,10 +1,9 @@
 // The tokens that blanking passes over, comments and literals: where one ends that opens at a place of a text.
-// A `Cursor` is such a place, by value; each step takes one and hands back the next. The byte here says which rules may fit, so that one that begins
-// no token is looked at once.
+// A `Cursor` is such a place, by value; each step takes one and hands back the next, or none where nothing of its kind stands here. The byte here
+// says which rules may fit, so that one that begins no token is looked at once.
 #![tactic(auto)]
 
-ghost use Rattle.std.specs.Prelude.{◌≡◌, ◌==◌, ◌&&◌, not, false, ◌∷◌, ◌+◌, ◌≤◌, ◌<◌, eqb, length, get_or, drop};
-ghost use Rattle.std.specs.List.{prefix_len};
+ghost use Rattle.std.specs.Prelude.{◌≡◌, false, ◌∷◌, ◌+◌, ◌≤◌, ◌<◌, length, get_or, drop};
 ghost use Rattle.text_rules.specs.Bytes.{◌or_else◌};
 ghost use Rattle.text_rules.specs.Classes.{apostrophe, lf, slash};
 ghost use Rattle.text_rules.specs.Search.{bytes_before};
@@ -28,32 +27,10 @@ const STAR: u8 = b'*';
 const BACKSLASH: u8 = b'\\';
 
 // A place in a text.
+// Kept: the text stands beside it. Contracts compare two places of one text, and with a text in each they would have to say that it is the same.
 #[derive(Clone, Copy)]
 pub struct Cursor {
     pub at: usize,
-}
-
-// Whether two bytes are a given pair.
-fn pair(a: u8, b: u8, x: u8, y: u8) -> bool
-    ensures { result ≡ (eqb a x && eqb b y) }
-{
-    a == x && b == y
-}
-
-// The number of bytes before the first `x`.
-fn before(s: &[u8], x: u8) -> usize
-    ensures count { result ≡ prefix_len (λ b. not (b == x)) s.now }
-    ensures inside { result ≤ length s.now }
-{
-    s.iter().take_while(|b| **b != x).count()
-}
-
-// The number of hashes at the head.
-fn head_hashes(s: &[u8]) -> usize
-    ensures count { result ≡ prefix_len (λ b. b == HASH) s.now }
-    ensures inside { result ≤ length s.now }
-{
-    s.iter().take_while(|b| **b == HASH).count()
 }
 
 impl Cursor {
@@ -62,8 +39,9 @@ impl Cursor {
         requires { self.at ≤ length s.now }
         ensures { Steps s.now self.at (hashes (drop self.at s.now)) result.at }
     {
-        let many = head_hashes(&s[self.at..]);
-        Cursor { at: self.at + many }
+        Cursor {
+            at: seek::end_while(s, self.at, |b| b == HASH),
+        }
     }
 
     // Past a line comment whose slashes stand before.
@@ -71,9 +49,10 @@ impl Cursor {
         requires { self.at ≤ length s.now }
         ensures { Steps s.now self.at (bytes_before lf (drop self.at s.now)) result.at }
     {
-        let at = blocks::past(s, self.at, LF);
-        let many = before(&s[at..], LF);
-        Cursor { at: at + many }
+        let from = blocks::past(s, self.at, LF);
+        Cursor {
+            at: seek::end_while(s, from, |b| b != LF),
+        }
     }
 
     // Past a block comment whose opening mark stands before.
@@ -85,17 +64,17 @@ impl Cursor {
         let mut prev: u8 = 0;
         for at in self.at..s.len() {
             let b = s[at];
-            if pair(prev, b, SLASH, STAR) {
-                depth += 1;
-                prev = 0;
-            } else if pair(prev, b, STAR, SLASH) {
-                if depth == 0 {
-                    return Cursor { at: at + 1 };
+            match (prev, b) {
+                (SLASH, STAR) => {
+                    depth += 1;
+                    prev = 0;
                 }
-                depth -= 1;
-                prev = 0;
-            } else {
-                prev = b;
+                (STAR, SLASH) if depth == 0 => return Cursor { at: at + 1 },
+                (STAR, SLASH) => {
+                    depth -= 1;
+                    prev = 0;
+                }
+                _ => prev = b,
             }
         }
         Cursor { at: s.len() }
@@ -156,13 +135,11 @@ impl Cursor {
         ensures { Found s.now self.at (raw_letters (drop self.at s.now)) result }
     {
         let at = self.at;
-        if s[at] == b'r' {
-            return Some(Cursor { at: at + 1 });
+        match (s[at], byte(s, at + 1)) {
+            (b'r', _) => Some(Cursor { at: at + 1 }),
+            (b'b', b'r') => Some(Cursor { at: at + 2 }),
+            _ => None,
         }
-        if pair(s[at], byte(s, at + 1), b'b', b'r') {
-            return Some(Cursor { at: at + 2 });
-        }
-        None
     }
 
     // Past the raw string that opens here; none where none does. What follows the letters rules out most words, so the byte before is tested last.
@@ -189,7 +166,7 @@ impl Cursor {
     {
         let from = self.at + 2;
         let window = &s[from..(self.at + 12).min(s.len())];
-        let many = before(window, APOSTROPHE);
+        let many = seek::end_while(window, 0, |b| b != APOSTROPHE);
         if many == window.len() {
             return None;
         }

@@ -2,8 +2,9 @@
 #![tactic(auto)]
 
 ghost use Rattle.std.specs.Prelude.{◌≡◌, true, []};
+ghost use Rattle.text_rules.specs.Bytes.{◌or_else◌};
 ghost use Rattle.gate_rules.specs.Tree.{is_laid_out, paths_rise, sources, texts_good, tree_refusal};
-ghost use Rattle.answers.specs.Numbers.{refusal_number};
+ghost use Rattle.answers.specs.Numbers.{number_of, refusal_number};
 
 use answers::Refusal;
 
@@ -59,4 +60,11 @@ pub fn accept(tree: &[u8]) -> Result<(), Refusal>
         return Err(Refusal::Text);
     }
     Ok(())
+}
+
+// Why a call is refused that has a reason of its own behind the tree's: the first that applies.
+pub fn refusal_or(tree: &[u8], own: Refusal) -> Refusal
+    ensures { number_of result ≡ tree_refusal tree.now or_else number_of own }
+{
+    accept(tree).err().unwrap_or(own)
 }

@@ -1,26 +1,28 @@
-// The baseline that update writes: its header, and the rows of the functions over the limits. The rows are measured first, so that a caller knows how many
-// bytes they take before any of them is written.
+// The baseline that update writes: its header, and the rows of the functions over the limits. The rows are measured first, so that a caller knows
+// how many bytes they take before any of them is written.
 #![tactic(auto)]
 
-ghost use Rattle.std.specs.Prelude.{◌≡◌, List, ℕ, ◌+◌, ◌≤◌, length};
-ghost use Rattle.text_rules.specs.Bytes.{overwritten, put_at};
+ghost use Rattle.std.specs.Prelude.{◌≡◌, ◌≤◌, length};
+ghost use Rattle.text_rules.specs.Bytes.{overwritten};
 ghost use Rattle.gate_rules.specs.Gate.{gate};
 ghost use Rattle.gate_rules.specs.Scan.{functions_of};
 ghost use Rattle.gate_rules.specs.Update.{baseline_text, header, recorded, rows};
-ghost use Rattle.functions.specs.Shown.{Lies, Stand, limits_of, shown};
-ghost use Rattle.update_rows.specs.Rows.{Narrow, keyed, keyed_length, lined, lined_length, measured, measured_length};
+ghost use Rattle.functions.specs.Short.{Short};
+ghost use Rattle.functions.specs.Shown.{limits_of, shown};
+ghost use Rattle.listing.specs.Writes.{Room, Writes};
+ghost use Rattle.update_rows.specs.Rows.{keyed, lined, lined_length, measured};
 
-use functions::{Function, Limits};
-use ranking::Order;
+use functions::{Function, Functions, Limits};
+use listing::{Size, Writer};
+use ranking::{ByKey, Ranking};
 
 // The eight header lines.
-fn put_header(out: &mut [u8]) -> usize
-    requires { 396 ≤ length out.old }
-    ensures { (result ≡ 396) × (out.new ≡ put_at 0 header out.old) }
+#[tactic(auto, unfolding(gate_rules::specs::Update::header))]
+fn write_header(w: &mut Writer<'_>)
+    requires { Room header w.old }
+    ensures { Writes header w.old w.new }
 {
-    listing::put_text(
-        out,
-        0,
+    w.text(
         b"# Accepted complexity, written by `cargo run --bin complexity -- --update`.\n\
         #\n\
         # Only functions over the thresholds are listed. `--check` fails when one of\n\
@@ -29,128 +31,99 @@ fn put_header(out: &mut [u8]) -> usize
         # see the module documentation in src/bin/complexity.rs.\n\
         #\n\
         # file\tfunction\tcyclomatic\tlines\n",
-    )
+    );
 }
 
 // Path and name of a row, each with the tab behind it.
-fn put_key(out: &mut [u8], at: usize, path: &[u8], name: &[u8]) -> usize
-    requires { at + keyed_length path.now name.now ≤ length out.old }
-    ensures { (result ≡ at + keyed_length path.now name.now) × (out.new ≡ put_at at (keyed path.now name.now) out.old) }
+fn write_key(w: &mut Writer<'_>, path: &[u8], name: &[u8])
+    requires { Room (keyed path.now name.now) w.old }
+    ensures { Writes (keyed path.now name.now) w.old w.new }
 {
-    let tab = listing::put_text(out, at, path);
-    let named = listing::put_text(out, tab, b"\t");
-    let end = listing::put_text(out, named, name);
-    listing::put_text(out, end, b"\t")
+    w.text(path);
+    w.text(b"\t");
+    w.text(name);
+    w.text(b"\t");
 }
 
 // The measures of a row, with a tab between them and the LF behind.
-fn put_measures(out: &mut [u8], at: usize, cyclomatic: u32, lines: u32) -> usize
-    requires { at + measured_length cyclomatic lines ≤ length out.old }
-    ensures { (result ≡ at + measured_length cyclomatic lines) × (out.new ≡ put_at at (measured cyclomatic lines) out.old) }
+fn write_measures(w: &mut Writer<'_>, cyclomatic: u32, lines: u32)
+    requires { Room (measured cyclomatic lines) w.old }
+    ensures { Writes (measured cyclomatic lines) w.old w.new }
 {
-    let tab = listing::put_number(out, at, cyclomatic as u64);
-    let second = listing::put_text(out, tab, b"\t");
-    let end = listing::put_number(out, second, lines as u64);
-    listing::put_text(out, end, b"\n")
-}
-
-// The bytes of a function's row with its LF.
-fn row_length(f: Function) -> usize
-    requires { Narrow f }
-    ensures { (tree : List ℕ) → Lies tree f → result ≡ lined_length (shown tree f) }
-{
-    let key = f.path_end - f.path_at + 1 + (f.name_end - f.name_at) + 1;
-    key + listing::digits(f.cyclomatic as u64) + 1 + listing::digits(f.lines as u64) + 1
+    w.number(cyclomatic as u64);
+    w.text(b"\t");
+    w.number(lines as u64);
+    w.text(b"\n");
 }
 
 // A function's row with its LF.
-fn put_row(tree: &[u8], f: Function, out: &mut [u8], at: usize) -> usize
-    requires { Lies tree.now f × (at + lined_length (shown tree.now f) ≤ length out.old) }
-    ensures { (result ≡ at + lined_length (shown tree.now f)) × (out.new ≡ put_at at (lined (shown tree.now f)) out.old) }
+fn write_row(w: &mut Writer<'_>, f: Function)
+    requires { Room (lined (shown f)) w.old }
+    ensures { Writes (lined (shown f.entry)) w.old w.new }
 {
-    let next = put_key(
-        out,
-        at,
-        functions::path_of(tree, f),
-        functions::name_of(tree, f),
-    );
-    put_measures(out, next, f.cyclomatic, f.lines)
+    write_key(w, f.path, f.name);
+    write_measures(w, f.cyclomatic, f.lines);
 }
 
-// How many rows there are, and their bytes together.
-#[derive(Clone, Copy)]
-pub struct RowsSize {
-    pub count: usize,
-    pub bytes: usize,
+// The size of a function's row with its LF.
+fn row_size(f: Function) -> Size
+    requires { Short (shown f) }
+    ensures { (result.count ≡ 1) × (result.bytes ≡ lined_length (shown f.entry)) }
+{
+    let key = f.path.len() + 1 + f.name.len() + 1;
+    let measures = listing::digits(f.cyclomatic as u64) + 1 + listing::digits(f.lines as u64) + 1;
+    Size {
+        count: 1,
+        bytes: key + measures,
+    }
 }
 
 // The size of all rows. It is the same in any order, so the functions are counted in scan order.
-pub fn rows_size(tree: &[u8], lent: &[u8], n: usize, limits: Limits) -> RowsSize
-    requires { Stand tree.now lent.now × (n ≡ length (functions_of gate tree.now)) }
-    ensures { (result.count ≡ length (recorded (limits_of limits) (functions_of gate tree.now)))
-        × (result.bytes ≡ length (rows (recorded (limits_of limits) (functions_of gate tree.now))))
+pub fn rows_size(functions: Functions, limits: Limits) -> Size
+    ensures { (result.count ≡ length (recorded (limits_of limits) (functions_of gate functions.entry.tree.now)))
+        × (result.bytes ≡ length (rows (recorded (limits_of limits) (functions_of gate functions.entry.tree.now))))
         × (result.count ≤ 8192)
         × (result.bytes ≤ 33554432) }
 {
-    let mut count: usize = 0;
-    let mut bytes: usize = 0;
-    for k in 0..n {
-        let f = functions::function_at(tree, lent, k);
-        if !functions::is_over(limits, f) {
+    let mut size = Size { count: 0, bytes: 0 };
+    for k in 0..functions.count {
+        let f = functions.get(k);
+        if !f.is_over(limits) {
             continue;
         }
-        count += 1;
-        bytes += row_length(f);
+        size = size.plus(row_size(f));
     }
-    RowsSize { count, bytes }
+    size
 }
 
-// All rows in their order, `count` of them.
-fn put_rows(
-    tree: &[u8],
-    lent: &[u8],
-    n: usize,
-    limits: Limits,
-    count: usize,
-    out: &mut [u8],
-    at: usize,
-) -> usize
-    requires { Stand tree.now lent.now
-        × (n ≡ length (functions_of gate tree.now))
-        × (count ≡ length (recorded (limits_of limits) (functions_of gate tree.now)))
-        × (at + length (rows (recorded (limits_of limits) (functions_of gate tree.now))) ≤ length out.old) }
-    ensures { (result ≡ at + length (rows (recorded (limits_of limits) (functions_of gate tree.now))))
-        × (out.new ≡ put_at at (rows (recorded (limits_of limits) (functions_of gate tree.now))) out.old) }
+// All rows in their order.
+fn write_rows(w: &mut Writer<'_>, functions: Functions, limits: Limits)
+    requires { Room (rows (recorded (limits_of limits) (functions_of gate functions.tree.now))) w.old }
+    ensures { Writes (rows (recorded (limits_of limits) (functions_of gate functions.entry.tree.now))) w.old w.new }
 {
-    let mut nodes = [0u16; 16384];
-    ranking::rank(Order::Keys, tree, lent, n, limits, &mut nodes);
-    let mut end = at;
-    let mut done: usize = 0;
-    while done < count {
-        let next = ranking::next(Order::Keys, tree, lent, n, &mut nodes);
-        let f = functions::function_at(tree, lent, next);
-        end = put_row(tree, f, out, end);
-        done += 1;
+    let mut ranking = Ranking::new(ByKey, functions, limits);
+    while let Some(f) = ranking.next() {
+        write_row(w, f);
     }
-    end
 }
 
-// The baseline: the header and the rows.
-pub fn put_baseline(
-    tree: &[u8],
-    lent: &[u8],
-    n: usize,
-    limits: Limits,
-    count: usize,
-    out: &mut [u8],
-) -> usize
-    requires { Stand tree.now lent.now
-        × (n ≡ length (functions_of gate tree.now))
-        × (count ≡ length (recorded (limits_of limits) (functions_of gate tree.now)))
-        × (length (baseline_text (limits_of limits) (functions_of gate tree.now)) ≤ length out.old) }
-    ensures { (result ≡ length (baseline_text (limits_of limits) (functions_of gate tree.now)))
-        × (out.new ≡ overwritten (baseline_text (limits_of limits) (functions_of gate tree.now)) out.old) }
+// The header and the rows.
+#[tactic(auto, unfolding(gate_rules::specs::Update::baseline_text), using(listing::specs::Writes::writes_then))]
+fn write_baseline(w: &mut Writer<'_>, functions: Functions, limits: Limits)
+    requires { Room (baseline_text (limits_of limits) (functions_of gate functions.tree.now)) w.old }
+    ensures { Writes (baseline_text (limits_of limits) (functions_of gate functions.entry.tree.now)) w.old w.new }
 {
-    let first = put_header(out);
-    put_rows(tree, lent, n, limits, count, out, first)
+    write_header(w);
+    write_rows(w, functions, limits);
+}
+
+// The baseline, at the front of the output.
+pub fn put_baseline(functions: Functions, limits: Limits, out: &mut [u8]) -> usize
+    requires { length (baseline_text (limits_of limits) (functions_of gate functions.tree.now)) ≤ length out.old }
+    ensures { (result ≡ length (baseline_text (limits_of limits) (functions_of gate functions.entry.tree.now)))
+        × (out.new ≡ overwritten (baseline_text (limits_of limits) (functions_of gate functions.entry.tree.now)) out.old) }
+{
+    let mut w = Writer { out, at: 0 };
+    write_baseline(&mut w, functions, limits);
+    w.at
 }

@@ -1,5 +1,6 @@
 // Well-formed UTF-8 by the Unicode Standard's table 3-7, and Unicode white space at the two ends of a text.
-// ASCII bytes are passed sixteen at once where they can be. Any other byte begins a character that is read whole, so nothing is awaited between two turns of a loop.
+// ASCII bytes are passed sixteen at once where they can be. Any other byte begins a character that is read whole, so nothing is awaited between two
+// turns of a loop.
 #![tactic(auto)]
 
 ghost use Rattle.std.specs.Prelude.{◌≡◌, [], ◌∷◌, ◌≤◌, ◌<◌, length, get_or, drop};
@@ -93,7 +94,10 @@ impl Place {
     // Past an ASCII byte, and past the blocks of ASCII behind it where none was asked in the last sixteen bytes.
     fn past_ascii(self, s: &[u8]) -> Place
         requires { (self.asked ≤ self.at) × (self.at < length s.now) × (get_or s.now self.at 0 < 128) }
-        ensures { (self.at < result.at) × (result.asked ≤ result.at) × (result.at ≤ length s.now) × (is_utf8 (drop self.at s.now) ≡ is_utf8 (drop result.at s.now)) }
+        ensures { (self.at < result.at)
+            × (result.asked ≤ result.at)
+            × (result.at ≤ length s.now)
+            × (is_utf8 (drop self.at s.now) ≡ is_utf8 (drop result.at s.now)) }
     {
         let next = self.at + 1;
         if next - self.asked < blocks::WIDTH {

@@ -1,5 +1,7 @@
-// Numbers noted for the places of a part of a text, two for each. The array's first two tell at which place the part begins and how many places it has.
-// The first number of each place stands behind them, and its second 2048 further. The last number counts how often numbers of the part were of use.
+// Numbers noted for the places of a part of a text, two for each. The array's first two tell at which place the part begins and how many places it
+// has. The first number of each place stands behind them, and its second 2048 further. The last number counts how often numbers of the part were of
+// use.
+// Kept: one array of fixed length, since it is lent by the caller and a call takes no memory beside what is lent.
 #![tactic(auto)]
 
 ghost use Rattle.std.specs.Prelude.{◌≡◌, ◌+◌, ◌≤◌, ◌<◌, length, get_or, MatchOption};
@@ -10,6 +12,7 @@ ghost use Rattle.windows.specs.Window.{Kept};
 pub const MOST: usize = 2048;
 
 // No place.
+// Kept: `chunks::clear` sets another number of another array, and each crate says in its own words what that tells.
 pub fn clear(m: &mut [u32; 4099])
     requires { length m.old ≡ 4099 }
     ensures { (length m.new ≡ 4099) × (get_or m.new 1 0 ≡ 0) }
@@ -32,8 +35,8 @@ fn is_noted(m: &[u32; 4099], at: usize) -> bool {
 // The searches that are made one by one before a part is noted, and the uses of its numbers before the next is noted at once.
 const FEW: u32 = 16;
 
-// Whether searches are counted, from one that began at most a part's length before a place. As long as there is no part, the array's third number counts
-// them, and its first tells where the first of them began.
+// Whether searches are counted, from one that began at most a part's length before a place. As long as there is no part, the array's third number
+// counts them, and its first tells where the first of them began.
 fn is_counting(m: &[u32; 4099], at: usize) -> bool {
     m[1] == 0 && index(m, at).is_some_and(|i| i < MOST)
 }
@@ -55,8 +58,8 @@ pub fn mark_used(m: &mut [u32; 4099])
     }
 }
 
-// Counts a search at a place that is long, and tells whether a part that begins there is worth noting. To note a part takes as long as several searches,
-// so sixteen are made one by one first. Behind a part that was of use as often the next is noted at once.
+// Counts a search at a place that is long, and tells whether a part that begins there is worth noting. To note a part takes as long as several
+// searches, so sixteen are made one by one first. Behind a part that was of use as often the next is noted at once.
 #[tactic(auto, using(crate::specs::Window::kept_all, crate::specs::Window::kept_first, crate::specs::Window::kept_more))]
 pub fn is_worth(m: &mut [u32; 4099], at: usize) -> bool
     requires { length m.old ≡ 4099 }

@@ -1,9 +1,9 @@
-// A number in four bytes, the lowest first: read and written.
+// A number in four bytes, the lowest first: read and written, alone or several one behind the other.
 #![tactic(auto)]
 
-ghost use Rattle.std.specs.Prelude.{◌≡◌, ◌+◌, ◌≤◌, ◌<◌, length};
+ghost use Rattle.std.specs.Prelude.{◌≡◌, ◌+◌, ◌*◌, ◌≤◌, ◌<◌, length};
 ghost use Rattle.text_rules.specs.Bytes.{put_at};
-ghost use Rattle.text_rules.specs.U32.{u32_at, u32_bytes};
+ghost use Rattle.text_rules.specs.U32.{u32_at, u32_bytes, u32s_bytes};
 
 // The number whose bytes begin at `at`.
 #[tactic(auto, unfolding(text_rules::specs::U32::u32_at))]
@@ -21,4 +21,14 @@ pub fn put_u32(s: &mut [u8], at: usize, v: u32)
     ensures { s.new ≡ put_at at (u32_bytes v) s.old }
 {
     s[at..at + 4].copy_from_slice(&v.to_le_bytes());
+}
+
+// The bytes of the numbers, one behind the other, from `at` on, and no other byte changed.
+pub fn put_u32s<const N: usize>(s: &mut [u8], at: usize, numbers: [u32; N])
+    requires { at + 4 * N ≤ length s.old }
+    ensures { s.new ≡ put_at at (u32s_bytes numbers.entry) s.old }
+{
+    for (k, number) in numbers.iter().enumerate() {
+        put_u32(s, at + 4 * k, *number);
+    }
 }

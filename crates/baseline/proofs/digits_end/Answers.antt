@@ -1,26 +1,10 @@
--- `baseline::digits_end` meets its contract: every byte that was passed is a digit.
-use Prim.Native.Nat.{ℕ}
-use mathlib.Core.Path.{◌≡◌, sym, ◌∙◌}
-use mathlib.Core.Bool.{true}
-use native.Mathlib.Omega.{arith}
+-- Each byte that was passed is a digit.
+use Rattle.std.proofs.Common.{rules, ◌≡◌, ◌<◌, ◌≤◌, ℕ, true, get_or}
 use Rattle.text_rules.specs.Classes.{is_digit}
-use Rattle.baseline.specs.Plain.{each_next}
 use Rattle.baseline.proofs.digits_end.Goals as goal
 
-pub loop-at-init : goal.loop-at-init
-loop-at-init c = (omega arith, omega arith, λ i h k. absurd (omega arith))
-
-pub returns-then-not-is_digit : goal.returns-then-not-is_digit
-returns-then-not-is_digit c = (omega arith, omega arith, c.loop-at.invariant.2)
-
-pub loop-at-preserved : goal.loop-at-preserved
-loop-at-preserved c =
-    let a = c.args in (
-      omega arith,
-      omega arith,
-      each_next (λ (b : ℕ). is_digit b ≡ true) a.s.now a.from c.loop-at.at c.loop-at.invariant.2
-          (sym c.is_digit.ensures ∙ c.if-not-is_digit.false),
-    )
-
 pub returns : goal.returns
-returns c = (omega arith, omega arith, c.loop-at.invariant.2)
+unfolding is_digit
+returns c =
+    let all : (k : ℕ) → c.args.from ≤ k → k < c.end_while.result → is_digit (get_or c.args.s.now k 0) ≡ true = λ k low high. let p = c.end_while.ensures.passed k low high in search rules in
+    (c.end_while.ensures.behind, c.end_while.ensures.inside, all)

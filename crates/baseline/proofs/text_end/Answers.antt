@@ -1,19 +1,8 @@
--- `baseline::text_end` meets its contract: every byte that was passed is above LF.
-use Prim.Native.Nat.{ℕ, ◌<◌}
-use native.Mathlib.Omega.{arith}
-use Rattle.baseline.specs.Plain.{each_next}
+-- Each byte that was passed is above LF.
+use Rattle.std.proofs.Common.{rules, ◌<◌, ◌≤◌, ℕ, get_or}
 use Rattle.baseline.proofs.text_end.Goals as goal
 
-pub loop-at-init : goal.loop-at-init
-loop-at-init c = (omega arith, omega arith, λ i h k. absurd (omega arith))
-
-pub returns-then-s-at-le-LF : goal.returns-then-s-at-le-LF
-returns-then-s-at-le-LF c = (omega arith, omega arith, c.loop-at.invariant.2)
-
-pub loop-at-preserved : goal.loop-at-preserved
-loop-at-preserved c =
-    let a = c.args in
-    (omega arith, omega arith, each_next (λ (b : ℕ). 10 < b) a.s.now a.from c.loop-at.at c.loop-at.invariant.2 (omega (arith, c.if-s-at-le-LF.false)))
-
 pub returns : goal.returns
-returns c = (omega arith, omega arith, c.loop-at.invariant.2)
+returns c =
+    let text : (k : ℕ) → c.args.from ≤ k → k < c.end_while.result → 10 < get_or c.args.s.now k 0 = λ k low high. let p = c.end_while.ensures.passed k low high in search rules in
+    (c.end_while.ensures.behind, c.end_while.ensures.inside, text)

@@ -1,35 +1,30 @@
--- `batches::add_line` meets its contract: a line with an entry brings its key, and one without brings none.
-use mathlib.Core.Path.{ap, subst, sym, ◌∙◌}
-use mathlib.Core.List.{map}
-use lib.ListN.{take}
+-- A line with an entry brings its key, and one without brings none.
+use Rattle.std.proofs.Common.{map, ap, sym, ◌∙◌, take}
 use Rattle.gate_rules.specs.Functions.{key}
 use Rattle.gate_rules.specs.Gate.{gate}
 use Rattle.gate_rules.specs.Scan.{functions_of}
 use Rattle.baseline.specs.Ordered.{one_key}
-use Rattle.baseline.specs.Reads.{KeyInside, key_in}
+use Rattle.baseline.specs.Reads.{key_in}
 use Rattle.batches.specs.Gathered.{gathered, gathered_none, gathered-one}
-use Rattle.sorted_keys.specs.Held.{holds_as, keys_at, unchanged}
+use Rattle.sorted_keys.specs.Held.{holds_as, keys_of, unchanged}
 use Rattle.batches.proofs.add_line.Goals as goal
 
-pub add_key-requires : goal.add_key-requires
-add_key-requires c =
-    let k = subst (KeyInside c.args.lines.now) c.in-Bytes.is c.requires.3 in
-    (c.requires.0, c.requires.1, c.requires.2, k.0, k.1, c.requires.4)
-
-pub returns-in-Bytes : goal.returns-in-Bytes
-returns-in-Bytes c =
+pub returns-in-Some : goal.returns-in-Some
+returns-in-Some c =
     let a = c.args in
-    let lines = a.lines.now in
-    let live = map key (functions_of gate a.tree.now) in
-    let ks = keys_at lines a.starts.now a.ends.now a.m in
-    let one = sym (gathered-one live (key_in lines a.last) ks _) ∙ ap (λ h. gathered live (key_in lines a.last) ks (one_key (key_in lines h))) (sym c.in-Bytes.is) in
-    holds_as lines _ _ c.add_key.result _ _ (ap (take 8192) one) c.add_key.ensures
+    let s = a.lines.now in
+    let live = map key (functions_of gate a.fs.tree.now) in
+    let last = key_in s a.last in
+    let ks = keys_of s a.keys.now in
+    let one = sym (gathered-one live last ks _) ∙ ap (λ h. gathered live last ks (one_key (key_in s h))) (sym c.in-Some.is) in
+    holds_as s _ _ _ (ap (take 8192) one) c.add_key.ensures
 
-pub returns-in-Nothing : goal.returns-in-Nothing
-returns-in-Nothing c =
+pub returns-in_default : goal.returns-in_default
+returns-in_default c =
     let a = c.args in
-    let lines = a.lines.now in
-    let live = map key (functions_of gate a.tree.now) in
-    let ks = keys_at lines a.starts.now a.ends.now a.m in
-    let none = sym (gathered_none live (key_in lines a.last) ks) ∙ ap (λ h. gathered live (key_in lines a.last) ks (one_key (key_in lines h))) (sym c.in-Nothing.is) in
-    holds_as lines a.starts.now a.ends.now a.m _ _ (ap (take 8192) none) (unchanged lines a.starts.now a.ends.now a.m c.requires.2)
+    let s = a.lines.now in
+    let live = map key (functions_of gate a.fs.tree.now) in
+    let last = key_in s a.last in
+    let ks = keys_of s a.keys.now in
+    let none = sym (gathered_none live last ks) ∙ ap (λ h. gathered live last ks (one_key (key_in s h))) (sym c.in_default.is) in
+    holds_as s a.keys.now _ _ (ap (take 8192) none) (unchanged s a.keys.now c.requires.1)

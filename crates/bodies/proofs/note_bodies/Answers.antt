@@ -1,18 +1,18 @@
 -- `bodies::note_bodies` meets its contract: the walk begins with nothing told, and what is told at its end stays so.
 use Rattle.std.proofs.Common.{get_or}
-use Rattle.bodies.specs.Numbers.{finds-nothing, told-finds, told-rest}
+use Rattle.bodies.specs.Numbers.{finds-nothing, told-finds, told-rest, unknown-each, unknown_room}
 use Rattle.bodies.specs.Walking.{kept-first, kept-told}
 use Rattle.bodies.proofs.note_bodies.Goals as goal
 use Rattle.bodies.proofs.note_bodies.Goals.{then-s-walk, else-s-walk}
 
 pub returns-then-s-gt4294967292 : goal.returns-then-s-gt4294967292
-returns-then-s-gt4294967292 c = finds-nothing _ _ _
+returns-then-s-gt4294967292 c = finds-nothing _ unknown_room unknown-each _ _ _
 
 pub walk-requires : goal.walk-requires
 walk-requires c =
     let first = c.in-Some.ensures.item.3 in
     rw (first.1 0)
-    (kept-first c.args.s.now c.args.starts.now c.new.result c.new-2.result c.requires.most (c.requires.rising.inside 0 first.0) c.if-s-gt4294967292.false
+    (kept-first c.args.s.now c.args.starts.now c.new.result c.new-2.result (c.requires.rising.inside 0 first.0) c.if-s-gt4294967292.false
     (c.new.ensures (get_or c.args.starts.now 0 0)) c.new-2.ensures)
 
 pub returns : goal.returns

@@ -5,7 +5,7 @@ use Rattle.check_texts.proofs.stale_length.Goals as goal
 
 pub returns : goal.returns
 returns c =
-    let a = c.args in
+    let keys = c.args.keys in
     let digits = c.digits.ensures in
-    let some = some-stale a.count a.bytes (omega (arith, c.if-count-eq0.false)) in
+    let some = some-stale keys.count keys.bytes (omega (arith, c.if-keys-eq0.false)) in
     (omega arith, omega arith)

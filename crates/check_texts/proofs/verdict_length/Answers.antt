@@ -5,7 +5,7 @@ use Rattle.check_texts.proofs.verdict_length.Goals as goal
 
 pub returns : goal.returns
 returns c =
-    let a = c.args in
+    let worse = c.args.worse in
     let digits = c.digits.ensures in
-    let some = some-worse a.count a.bytes (omega (arith, c.if-count-eq0.false)) in
+    let some = some-worse worse.count worse.bytes (omega (arith, c.if-worse-eq0.false)) in
     (omega arith, omega arith)

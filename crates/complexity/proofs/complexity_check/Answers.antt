@@ -1,5 +1,5 @@
 -- `complexity::complexity_check` meets its contract: it is the call check, with its counts put.
-use mathlib.Core.Path.{refl, ◌∙◌}
+use mathlib.Core.Path.{refl}
 use mathlib.Core.List.{[], ◌∷◌}
 use native.Mathlib.Omega.{arith}
 use Rattle.answers.proofs.NumbersLaws.{number_least}
@@ -12,19 +12,19 @@ pub returns-then-counts-lt-CHECK_COUNTS : goal.returns-then-counts-lt-CHECK_COUN
 returns-then-counts-lt-CHECK_COUNTS c =
     let a = c.args in
     ends-short _ a.tree.now a.work.now a.records.now a.output.now a.counts.now _
-    (check_export_short gate_limits a.tree.now a.baseline.now a.work.now a.records.now a.output.now a.counts.now c.if-counts-lt-CHECK_COUNTS.true) (c.from.ensures ∙ c.too_few.ensures)
+    (check_export_short gate_limits a.tree.now a.baseline.now a.work.now a.records.now a.output.now a.counts.now c.if-counts-lt-CHECK_COUNTS.true) c.too_few.ensures
 
 pub returns-in-Ok : goal.returns-in-Ok
 returns-in-Ok c =
     let a = c.args in
     let u = c.in-Ok.ensures in
-    ends_as 16 _ _ _ _ _ _ _ (check_export gate_limits a.tree.now a.baseline.now a.work.now a.records.now a.output.now a.counts.now c.if-counts-lt-CHECK_COUNTS.false) _ 0 _ _ _ _ _ refl u.number_is
-    (λ i. u.written_is i ∷ u.functions-is i ∷ u.regressed-is i ∷ u.stale-is i ∷ []) u.work-is u.records_is u.output-is (record { success = λ z. c.put_counts.ensures; refused = λ h. absurd (omega arith) })
+    ends_as 16 _ _ _ _ _ _ _ (check_export gate_limits a.tree.now a.baseline.now a.work.now a.records.now a.output.now a.counts.now c.if-counts-lt-CHECK_COUNTS.false) _ 0 _ _ _ _ _ c.told.ensures.number u.number_is
+    (λ i. u.written_is i ∷ u.functions-is i ∷ u.regressed-is i ∷ u.stale-is i ∷ []) u.work-is u.records_is u.output-is (record { success = λ z. c.told.ensures.counts; refused = λ h. absurd (omega arith) })
 
 pub returns-in-Err : goal.returns-in-Err
 returns-in-Err c =
     let a = c.args in
     let u = c.in-Err.ensures in
     let some = number_least c.in-Err.refusal in
-    ends_as 16 _ _ _ _ _ _ _ (check_export gate_limits a.tree.now a.baseline.now a.work.now a.records.now a.output.now a.counts.now c.if-counts-lt-CHECK_COUNTS.false) _ _ _ _ _ _ _ c.from-in-Err.ensures u.number_is
+    ends_as 16 _ _ _ _ _ _ _ (check_export gate_limits a.tree.now a.baseline.now a.work.now a.records.now a.output.now a.counts.now c.if-counts-lt-CHECK_COUNTS.false) _ _ _ _ _ _ _ c.from.ensures u.number_is
     (λ i. u.written_is i ∷ u.functions-is i ∷ u.regressed-is i ∷ u.stale-is i ∷ []) u.work-is u.records_is u.output-is (record { success = λ z. absurd (omega (arith, some, z)); refused = λ h. refl })

@@ -1,5 +1,5 @@
 -- `complexity::complexity_update` meets its contract: it is the call update, with its counts put.
-use mathlib.Core.Path.{refl, ◌∙◌}
+use mathlib.Core.Path.{refl}
 use mathlib.Core.List.{[], ◌∷◌}
 use native.Mathlib.Omega.{arith}
 use Rattle.answers.proofs.NumbersLaws.{number_least}
@@ -12,19 +12,19 @@ pub returns-then-counts-lt-UPDATE_COUNTS : goal.returns-then-counts-lt-UPDATE_CO
 returns-then-counts-lt-UPDATE_COUNTS c =
     let a = c.args in
     ends-short _ a.tree.now a.work.now a.records.now a.output.now a.counts.now _
-    (update_export_short gate_limits a.tree.now a.work.now a.records.now a.output.now a.counts.now c.if-counts-lt-UPDATE_COUNTS.true) (c.from.ensures ∙ c.too_few.ensures)
+    (update_export_short gate_limits a.tree.now a.work.now a.records.now a.output.now a.counts.now c.if-counts-lt-UPDATE_COUNTS.true) c.too_few.ensures
 
 pub returns-in-Ok : goal.returns-in-Ok
 returns-in-Ok c =
     let a = c.args in
     let u = c.in-Ok.ensures in
-    ends_as 12 _ _ _ _ _ _ _ (update_export gate_limits a.tree.now a.work.now a.records.now a.output.now a.counts.now c.if-counts-lt-UPDATE_COUNTS.false) _ 0 _ _ _ _ _ refl u.number_is
-    (λ i. u.written_is i ∷ u.functions-is i ∷ u.recorded-is i ∷ []) u.work-is u.records_is u.output-is (record { success = λ z. c.put_counts.ensures; refused = λ h. absurd (omega arith) })
+    ends_as 12 _ _ _ _ _ _ _ (update_export gate_limits a.tree.now a.work.now a.records.now a.output.now a.counts.now c.if-counts-lt-UPDATE_COUNTS.false) _ 0 _ _ _ _ _ c.told.ensures.number u.number_is
+    (λ i. u.written_is i ∷ u.functions-is i ∷ u.recorded-is i ∷ []) u.work-is u.records_is u.output-is (record { success = λ z. c.told.ensures.counts; refused = λ h. absurd (omega arith) })
 
 pub returns-in-Err : goal.returns-in-Err
 returns-in-Err c =
     let a = c.args in
     let u = c.in-Err.ensures in
     let some = number_least c.in-Err.refusal in
-    ends_as 12 _ _ _ _ _ _ _ (update_export gate_limits a.tree.now a.work.now a.records.now a.output.now a.counts.now c.if-counts-lt-UPDATE_COUNTS.false) _ _ _ _ _ _ _ c.from-in-Err.ensures u.number_is
+    ends_as 12 _ _ _ _ _ _ _ (update_export gate_limits a.tree.now a.work.now a.records.now a.output.now a.counts.now c.if-counts-lt-UPDATE_COUNTS.false) _ _ _ _ _ _ _ c.from.ensures u.number_is
     (λ i. u.written_is i ∷ u.functions-is i ∷ u.recorded-is i ∷ []) u.work-is u.records_is u.output-is (record { success = λ z. absurd (omega (arith, some, z)); refused = λ h. refl })

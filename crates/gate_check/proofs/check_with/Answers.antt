@@ -26,26 +26,27 @@ returns-in_err-functions c =
     rw (p.1, p.2) (refused_checks (limits_of a.limits) a.tree.now a.baseline.now a.work.now a.lent.now a.output.now c.if-baseline-gt-MAX_BASELINE.false
     _ _ _ c.in_err-functions.ensures _ (number_least e) (refuses e))
 
+pub invariant_of-fs : goal.invariant_of-fs
+invariant_of-fs c =
+    let a = c.args in
+    let L = limits_of a.limits in
+    let short = c.if-baseline-gt-MAX_BASELINE.false in
+    record {
+      stand = scan_stands L a.tree.now a.baseline.now a.work.now a.lent.now a.output.now short _ _ _ c.in_ok-functions.ensures refl;
+      all = scan_count L a.tree.now a.baseline.now a.work.now a.lent.now a.output.now short _ _ _ c.in_ok-functions.ensures refl;
+    }
+
 pub slice_bounds-told-end : goal.slice_bounds-told-end
-slice_bounds-told-end c = sym (length-take-le _ _ c.read_length-end.ensures.0)
+slice_bounds-told-end c = sym (length-take-le _ _ c.read_length.ensures.0)
 
 pub told-requires : goal.told-requires
 told-requires c =
-    let read = c.read_length-end in
-    let a = c.args in
-    let L = limits_of a.limits in
-    let short = c.if-baseline-gt-MAX_BASELINE.false in (
-      record {
-        stand = scan_stands L a.tree.now a.baseline.now a.work.now a.lent.now a.output.now short _ _ _ c.in_ok-functions.ensures refl;
-        count = scan_count L a.tree.now a.baseline.now a.work.now a.lent.now a.output.now short _ _ _ c.in_ok-functions.ensures refl;
-      },
-      read.ensures.1,
-      omega (arith, short, length-take read.result a.baseline.now),
-    )
+    let read = c.read_length in
+    record { text = read.ensures.1; short = omega (arith, c.if-baseline-gt-MAX_BASELINE.false, length-take read.result c.args.baseline.now) }
 
 pub returns : goal.returns
 returns c =
-    let read = c.read_length-end in
+    let read = c.read_length in
     let a = c.args in
     told_checks (limits_of a.limits) a.tree.now a.baseline.now a.work.now a.lent.now a.output.now c.if-baseline-gt-MAX_BASELINE.false
     _ _ _ c.in_ok-functions.ensures refl _ (entries_of_lines (take read.result a.baseline.now)) _ read.ensures.2 c.told.ensures

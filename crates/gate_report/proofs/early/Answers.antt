@@ -1,6 +1,5 @@
 -- `gate_report::early` meets its contract: its tests are those of the table, in the table's order.
 use mathlib.Core.Path.{sym}
-use native.Mathlib.Omega.{arith}
 use Rattle.std.proofs.lemmas.Result.{err_from_is_err_and}
 use Rattle.answers.proofs.NumbersLaws.{number_least}
 use Rattle.gate_rules.proofs.FileLaws.{count-inside}

@@ -1,51 +1,41 @@
 -- `gate_report::listed` meets its contract: the length that is told is the text's, so that 9 is found before anything is written.
-use mathlib.Core.Path.{refl}
+use mathlib.Core.Path.{ap, refl, ◌∙◌}
 use native.Mathlib.Omega.{arith}
-use Rattle.gate_rules.proofs.FileLaws.{count-inside}
-use Rattle.gate_rules.proofs.TreeLaws.{unrefused}
+use lib.ListN.{length}
+use Rattle.gate_rules.specs.Report.{weight_rows}
 use Rattle.gate_rules.proofs.TreeSizes.{tree_branches}
 use Rattle.functions.specs.Shown.{limits_of}
-use Rattle.gate_report.specs.Listed.{listed-short, listed-whole}
+use Rattle.report_files.specs.Files.{heaviest_files}
+use Rattle.gate_report.specs.Listed.{listed-short}
 use Rattle.gate_report.specs.Text.{text-length, text-most}
 use Rattle.gate_report.proofs.listed.Goals as goal
 
-pub file_count-files-requires : goal.file_count-files-requires
-file_count-files-requires c = count-inside c.args.tree.now (unrefused c.args.tree.now c.requires.0.unrefused).laid
-
-pub report_length-length-requires : goal.report_length-length-requires
-report_length-length-requires c =
-    let a = c.args in
+pub report_length-requires : goal.report_length-requires
+report_length-requires c =
+    let fs = c.args.functions in
+    let L = limits_of c.args.limits in
     let k = c.count-counts.ensures in (
-      record { unrefused = c.requires.0.unrefused; sums = c.file_totals-totals.ensures },
-      c.heaviest_files-heaviest.ensures,
-      omega (arith, k.branches_is, tree_branches a.tree.now c.requires.0.unrefused),
-      omega (arith, text-length (limits_of a.limits) a.tree.now a.n c.count-counts.result c.requires.1 k, text-most (limits_of a.limits) a.tree.now a.lent.now c.requires.0),
+      omega (arith, k.branches_is, tree_branches fs.tree.now fs.stand.unrefused),
+      omega (arith, text-length L fs.tree.now fs.count c.count-counts.result fs.all k, text-most L fs.tree.now fs.records.now fs.stand),
     )
 
-pub returns-then-output-length : goal.returns-then-output-length
-returns-then-output-length c =
-    let a = c.args in
-    let k = c.count-counts.ensures in
-    let size = text-length (limits_of a.limits) a.tree.now a.n c.count-counts.result c.requires.1 k in
-    listed-short (limits_of a.limits) a.tree.now a.output.now _ c.file_count-files.ensures.0 c.file_totals-totals.ensures (omega (arith, size, c.if-output-length.true, c.report_length-length.ensures)) (refl, refl, refl)
+pub returns-then-output-report_length : goal.returns-then-output-report_length
+returns-then-output-report_length c =
+    let fs = c.args.functions in
+    let L = limits_of c.args.limits in
+    let size = text-length L fs.tree.now fs.count c.count-counts.result fs.all c.count-counts.ensures in
+    let files = ap (λ ws. length (weight_rows ws)) (c.new-heaviest.ensures ∙ ap heaviest_files c.requires) in
+    listed-short L fs.tree.now c.args.output.now _ (omega (arith, size, files, c.if-output-report_length.true, c.report_length.ensures)) (refl, refl, refl)
 
-pub put_report-written-requires : goal.put_report-written-requires
-put_report-written-requires c =
-    let a = c.args in
-    let k = c.count-counts.ensures in
-    let size = text-length (limits_of a.limits) a.tree.now a.n c.count-counts.result c.requires.1 k in
-    (c.requires.0, record { unrefused = c.requires.0.unrefused; sums = c.file_totals-totals.ensures }, c.requires.1, k, c.heaviest_files-heaviest.ensures, omega (arith, size, c.if-output-length.false, c.report_length-length.ensures))
+pub write_report-requires : goal.write_report-requires
+write_report-requires c =
+    let fs = c.args.functions in
+    let L = limits_of c.args.limits in
+    let heaviest = c.new-heaviest.ensures ∙ ap heaviest_files c.requires in
+    let size = text-length L fs.tree.now fs.count c.count-counts.result fs.all c.count-counts.ensures in
+    (c.count-counts.ensures, heaviest, omega (arith, size, ap (λ ws. length (weight_rows ws)) heaviest, c.if-output-report_length.false, c.report_length.ensures))
 
-pub overflow_cast-result-2 : goal.overflow_cast-result-2
-overflow_cast-result-2 c = omega (arith, c.put_report-written.ensures.0, text-most (limits_of c.args.limits) c.args.tree.now c.args.lent.now c.requires.0)
-
-pub overflow_cast-result-3 : goal.overflow_cast-result-3
-overflow_cast-result-3 c = omega (arith, c.requires.1, c.requires.0.few)
-
-pub returns : goal.returns
-returns c =
-    let a = c.args in
-    let k = c.count-counts.ensures in
-    let size = text-length (limits_of a.limits) a.tree.now a.n c.count-counts.result c.requires.1 k in
-    let put = c.put_report-written.ensures in
-    listed-whole (limits_of a.limits) a.tree.now a.output.now _ c.file_count-files.ensures.0 c.file_totals-totals.ensures _ (omega (arith, size, c.if-output-length.false, c.report_length-length.ensures)) (refl, put.0, c.requires.1) put.1
+pub overflow_cast-result : goal.overflow_cast-result
+overflow_cast-result c =
+    let fs = c.args.functions in
+    record { fits = omega (arith, c.write_report.ensures.place, text-most (limits_of c.args.limits) fs.tree.now fs.records.now fs.stand) }

@@ -3,7 +3,7 @@ use Rattle.std.proofs.Common.{◌+◌, ◌≡◌, [], length, ap, subst, sym, �
 use Rattle.gate_rules.specs.RecordForms.{put_record, put_records}
 use Rattle.gate_rules.proofs.RecordLaws.{put_record_length}
 use Rattle.gate_rules.specs.Records.{record_bytes}
-use Rattle.signatures.specs.Signatures.{Lends}
+use Rattle.signatures.specs.Signatures.{LendsIn, lent_rooms}
 use Rattle.source.specs.Cursors.{Ended, Yields, remaining}
 use Rattle.gate_scan.specs.Told.{count_next, records-end, records-next, records_for, told, told-wide}
 use Rattle.gate_scan.proofs.scan_text.Goals as goal
@@ -24,7 +24,7 @@ loop-f-preserved c =
       counted = omega (arith, l.invariant.counted, count_next s l.cursor f d y number place);
       most = omega (arith, l.invariant.most, y.further);
       put = ap (put_records (l.n + 1) (records_for number place (remaining s d))) e ∙ sym (records-next s l.cursor f d y number place l.n l.lent) ∙ l.invariant.put;
-      lends = subst (λ t. Lends t c.next.new.noted c.next.new.sums c.next.new.kept) l.invariant.ready.text c.next.ensures.lent;
+      lends = subst (λ t. LendsIn t c.next.new.notes) l.invariant.ready.text c.next.ensures.lent;
     }
 
 pub returns : goal.returns
@@ -32,11 +32,8 @@ returns c =
     let s = c.args.s.now in
     let l = c.loop-f in
     let none : remaining s l.cursor ≡ [] = (subst (λ t. Ended t l.cursor c.next.new.self) l.invariant.ready.text c.in_default.ensures.stepped).all_found in
-    let zero : length (remaining s l.cursor) ≡ 0 = ap length none in
-    let lent = c.next.ensures.lent in (
+    let zero : length (remaining s l.cursor) ≡ 0 = ap length none in (
       omega (arith, l.invariant.counted),
       sym (records-end s l.cursor none c.args.number c.args.place l.n l.lent) ∙ l.invariant.put,
-      lent.0.0.room,
-      lent.0.1.room,
-      lent.1.room,
+      lent_rooms _ c.next.new.notes c.next.ensures.lent,
     )

@@ -4,7 +4,7 @@ use mathlib.Core.Path.{◌≡◌}
 use lib.ListN.{length}
 use Rattle.source_rules.specs.TextScan.{functions}
 use Rattle.gate_rules.specs.RecordForms.{put_records}
-use Rattle.signatures.specs.Signatures.{Lends}
+use Rattle.signatures.specs.Signatures.{LendsIn}
 use Rattle.source.specs.Cursors.{Ready, remaining}
 use Rattle.gate_scan.specs.Told.{records_for}
 use Rattle.gate_scan.proofs.scan_text.Given as goal
@@ -17,7 +17,7 @@ invariant-loop-f l =
       counted : l.n + length (remaining l.s l.cursor) ≡ l.done + length (functions l.s);
       most : l.n ≤ l.done + l.cursor.at;
       put : put_records l.n (records_for l.number l.place (remaining l.s l.cursor)) l.lent ≡ put_records l.done (records_for l.number l.place (functions l.s)) l.initial.lent;
-      lends : Lends l.s l.noted l.sums l.kept;
+      lends : LendsIn l.s l.notes;
     }
 
 abbrev pub decreases-loop-f : goal.decreases-loop-f

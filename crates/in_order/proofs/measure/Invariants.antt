@@ -1,10 +1,7 @@
--- `in_order::measure` meets its contract: what is counted, and what the lines still to come add, is the whole.
-use Prim.Native.Nat.{◌+◌, ◌-◌, ◌≤◌}
-use mathlib.Core.Path.{◌≡◌}
-use mathlib.Core.Bool.{true}
-use lib.ListN.{length, drop}
+-- What is counted, and what the lines still to come add, is the whole.
+use Rattle.std.proofs.Common.{◌≡◌, ◌+◌, ◌-◌, ◌≤◌, true, length, drop}
+use Rattle.std.specs.Prelude.{None}
 use Rattle.baseline.specs.Ordered.{keys_in}
-use Rattle.baseline.specs.declared.Key.TheVariants.{Nothing}
 use Rattle.listed_keys.specs.KeyLines.{key_lines}
 use Rattle.in_order.specs.Passing.{to_come}
 use Rattle.in_order.specs.Paths.{Knows}
@@ -13,12 +10,13 @@ use Rattle.in_order.specs.Whole.{PlainTo}
 use Rattle.in_order.proofs.measure.Given as goal
 
 abbrev pub invariant-loop-from : goal.invariant-loop-from
-invariant-loop-from l =
-    Knows l.tree l.lines l.last
-    × Risen l.lines l.last.key l.from
-    × (l.count + length (to_come l.tree l.lines l.last.key l.from) ≡ length (to_come l.tree l.lines Nothing 0))
-    × (l.bytes + length (key_lines (to_come l.tree l.lines l.last.key l.from)) ≡ length (key_lines (to_come l.tree l.lines Nothing 0)))
-    × (l.whole ≡ true → PlainTo l.lines l.from × (length (keys_in l.lines) ≤ l.count + length (keys_in (drop l.from l.lines))))
+invariant-loop-from l = record {
+  knows : Knows l.fs.tree.now l.lines l.last;
+  risen : Risen l.lines l.last.key l.from;
+  count : l.size.count + length (to_come l.fs.tree.now l.lines l.last.key l.from) ≡ length (to_come l.fs.tree.now l.lines None 0);
+  bytes : l.size.bytes + length (key_lines (to_come l.fs.tree.now l.lines l.last.key l.from)) ≡ length (key_lines (to_come l.fs.tree.now l.lines None 0));
+  plain : l.whole ≡ true → PlainTo l.lines l.from × (length (keys_in l.lines) ≤ l.size.count + length (keys_in (drop l.from l.lines)));
+}
 
 abbrev pub decreases-loop-from : goal.decreases-loop-from
 decreases-loop-from l = length l.lines - l.from

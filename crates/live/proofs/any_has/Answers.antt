@@ -16,14 +16,14 @@ loop-k-init c = (omega arith, λ i a b. absurd (omega arith))
 pub returns-then-has_key : goal.returns-then-has_key
 returns-then-has_key c =
     let k = c.args.bytes.now in
-    let here = sym (c.has_key.ensures ∙ ap (λ f. same k (key f)) c.function_at-f.ensures.0) ∙ c.if-has_key.true in
-    (λ e. one-live k (functions_of gate c.args.tree.now) c.loop-k.k (omega (arith, c.requires.1, c.requires.2)) here, λ e. absurd (true_false true refl e))
+    let here = sym (c.has_key.ensures ∙ ap (λ f. same k (key f)) c.get.ensures) ∙ c.if-has_key.true in
+    record { live = λ e. one-live k (functions_of gate c.args.fs.tree.now) c.loop-k.k (omega (arith, c.requires, c.args.fs.all)) here; dead = λ e. absurd (true_false true refl e) }
 
 pub loop-k-preserved : goal.loop-k-preserved
 loop-k-preserved c =
     let k = c.args.bytes.now in
-    let here = sym (c.has_key.ensures ∙ ap (λ f. same k (key f)) c.function_at-f.ensures.0) ∙ c.if-has_key.false in
-    (omega arith, none_more k (functions_of gate c.args.tree.now) c.args.from c.loop-k.k c.loop-k.invariant.1 here)
+    let here = sym (c.has_key.ensures ∙ ap (λ f. same k (key f)) c.get.ensures) ∙ c.if-has_key.false in
+    (omega arith, none_more k (functions_of gate c.args.fs.tree.now) c.args.numbers.start c.loop-k.k c.loop-k.invariant.1 here)
 
 pub returns : goal.returns
-returns c = (λ e. absurd (true_false false e refl), λ e i a b. c.loop-k.invariant.1 i a (omega (arith, b, c.loop-k-test.false)))
+returns c = record { live = λ e. absurd (true_false false e refl); dead = λ e i a b. c.loop-k.invariant.1 i a (omega (arith, b, c.loop-k-test.false)) }

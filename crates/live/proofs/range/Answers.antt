@@ -1,23 +1,22 @@
 -- `live::range` meets its contract: the functions outside have paths that stand before or behind that of the key.
-use mathlib.Core.Path.{◌≡◌, ap, sym, ◌∙◌}
-use native.Mathlib.Omega.{arith}
-use lib.ListN.{take}
-use lib.Seq.{length-take-le}
+use Rattle.std.proofs.Common.{◌≡◌, ℕ, ◌+◌, ◌<◌, true, ap, sym, ◌∙◌, take, get_or, rules, arith}
 use Rattle.text_rules.specs.Classes.{tab}
 use Rattle.text_rules.specs.Search.{bytes_before}
-use Rattle.live.specs.Ranges.{only}
+use Rattle.gate_rules.specs.Gate.{gate}
+use Rattle.gate_rules.specs.Scan.{functions_of}
+use Rattle.gate_rules.specs.Tree.{path_before}
+use Rattle.functions.specs.Shown.{no_fun}
+use Rattle.live.specs.Ranges.{only_ends}
 use Rattle.live.proofs.range.Goals as goal
 
-pub slice_bounds-first_from-end : goal.slice_bounds-first_from-end
-slice_bounds-first_from-end c = sym (length-take-le _ _ (omega (arith, c.field_end-end.ensures.2)))
-
-pub slice_bounds-first_behind-end : goal.slice_bounds-first_behind-end
-slice_bounds-first_behind-end c = sym (length-take-le _ _ (omega (arith, c.field_end-end.ensures.2)))
-
-pub returns : goal.returns
-returns c =
-    let end : c.field_end-end.result ≡ bytes_before tab c.args.bytes.now = omega (arith, c.field_end-end.ensures.0) in (
-      c.first_behind-to.ensures.0,
-      λ k e. only c.args.tree.now c.args.lent.now c.requires.0 k _ (ap (λ n. take n c.args.bytes.now) end ∙ sym e) c.first_from-from.result c.first_behind-to.result
-          (omega (arith, c.first_from-from.ensures.0, c.requires.1)) c.first_from-from.ensures.1 (λ i a b. c.first_behind-to.ensures.1 i a (omega (arith, c.requires.1))),
-    )
+pub returns-clause-others : goal.returns-clause-others
+returns-clause-others c k e =
+    let fs = c.args.fs in
+    let tree = fs.tree.now in
+    let p = take c.field_end.result c.args.bytes.now in
+    let end : c.field_end.result ≡ bytes_before tab c.args.bytes.now = omega (arith, c.field_end.ensures.0) in
+    let before : (m : ℕ) → m + 1 ≡ c.boundary-from.result → path_before (get_or (functions_of gate tree) m no_fun).path p ≡ true =
+    λ m q. let h = c.boundary-from.ensures.before m q in search rules in
+    let behind : c.boundary-to.result < fs.count → path_before p (get_or (functions_of gate tree) c.boundary-to.result no_fun).path ≡ true =
+    λ q. let h = c.boundary-to.ensures.here q in search rules in
+    only_ends tree fs.records.now fs.stand k p (ap (λ n. take n c.args.bytes.now) end ∙ sym e) c.boundary-from.result c.boundary-to.result fs.count fs.all c.boundary-from.ensures.inside before behind

@@ -4,7 +4,7 @@ use mathlib.Core.Path.{ap, sym, ◌∙◌}
 use native.Mathlib.Omega.{arith}
 use Rattle.gate_rules.specs.Functions.{key_of}
 use Rattle.lookup.specs.Halves.{later}
-use Rattle.lookup.proofs.Finds.{found-end, found-next, found_from}
+use Rattle.lookup.proofs.Finds.{found-end, found-next, found_from, or_later}
 use Rattle.lookup.proofs.Halving.{found_below, found-beyond, next-rises, rest-rises}
 use Rattle.lookup.proofs.lookup_from.Goals as goal
 
@@ -13,12 +13,6 @@ loop-from-init c =
     let a = c.args in
     let k = key_of a.path.now a.name.now in
     (found_below a.baseline.now k a.place c.requires.1, rest-rises a.baseline.now k a.place c.requires.1 c.requires.0)
-
-pub key_at-requires : goal.key_at-requires
-key_at-requires c = (c.trimmed_end-to.ensures.1, omega (arith, c.trimmed_end-to.ensures.2, c.line_end-end.ensures.2))
-
-pub is_beyond-requires : goal.is_beyond-requires
-is_beyond-requires c = c.key_at.ensures.0
 
 pub returns-then-is_beyond : goal.returns-then-is_beyond
 returns-then-is_beyond c =
@@ -32,7 +26,7 @@ loop-from-preserved c =
     let k = key_of a.path.now a.name.now in
     let s = a.baseline.now in
     let end = c.line_end-end.result in (
-      ap (λ f. found_from f k s (end + 1)) (c.later-found.ensures ∙ ap (later c.loop-from.found) c.in_line-line.ensures)
+      ap (λ f. found_from f k s (end + 1)) (c.or-found.ensures ∙ or_later c.loop-from.found c.in_line.result ∙ ap (later c.loop-from.found) c.in_line.ensures)
           ∙ found-next c.loop-from.found k s c.loop-from.from end c.trimmed_end-to.result c.line_end-end.ensures.0 c.trimmed_end-to.ensures.0
           ∙ c.loop-from.invariant.0,
       next-rises s k c.loop-from.from end c.trimmed_end-to.result c.line_end-end.ensures.0 c.trimmed_end-to.ensures.0 c.loop-from.invariant.1,

@@ -9,12 +9,11 @@ use Rattle.regression_sizes.proofs.branches_size.Goals as goal
 pub returns-then-more_branches : goal.returns-then-more_branches
 returns-then-more_branches c =
     let a = c.args in
+    let f = shown a.f in
     let start = c.start_length-start.ensures in
     let first = c.digits.ensures in
     let second = c.digits-then-more_branches.ensures in (
-      λ tree l.
-          let f = shown tree a.f in
-          measured-one (more_branches f (entry_of a.m)) (branches_some f a.m (sym c.more_branches.ensures ∙ c.if-more_branches.true)) refl (omega (arith, start.0 tree l, branches_length_lem f a.m)),
+      measured-one (more_branches f (entry_of a.m)) (branches_some f a.m (sym c.more_branches.ensures ∙ c.if-more_branches.true)) refl (omega (arith, start.0, branches_length_lem f a.m)),
       omega arith,
       omega arith,
     )
@@ -22,4 +21,4 @@ returns-then-more_branches c =
 pub returns : goal.returns
 returns c =
     let a = c.args in
-    (λ tree l. measured-none (branches_none (shown tree a.f) a.m (sym c.more_branches.ensures ∙ c.if-more_branches.false)) refl refl, omega arith, omega arith)
+    (measured-none (branches_none (shown a.f) a.m (sym c.more_branches.ensures ∙ c.if-more_branches.false)) refl refl, omega arith, omega arith)

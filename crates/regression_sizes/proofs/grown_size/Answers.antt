@@ -5,7 +5,7 @@ use Rattle.regression_sizes.proofs.grown_size.Goals as goal
 
 pub returns : goal.returns
 returns c =
-    let branches = c.branches_size-branches.ensures in
-    let lines = c.lines_size-lines.ensures in
-    let sum = c.both.ensures in
-    (λ tree l. measured-both (branches.0 tree l) (lines.0 tree l) sum.0 sum.1, omega arith, omega arith)
+    let branches = c.branches_size.ensures in
+    let lines = c.lines_size.ensures in
+    let sum = c.plus.ensures in
+    (measured-both branches.0 lines.0 sum.count sum.bytes, omega arith, omega arith)

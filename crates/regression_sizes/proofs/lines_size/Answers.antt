@@ -9,12 +9,11 @@ use Rattle.regression_sizes.proofs.lines_size.Goals as goal
 pub returns-then-more_lines : goal.returns-then-more_lines
 returns-then-more_lines c =
     let a = c.args in
+    let f = shown a.f in
     let start = c.start_length-start.ensures in
     let first = c.digits.ensures in
     let second = c.digits-then-more_lines.ensures in (
-      λ tree l.
-          let f = shown tree a.f in
-          measured-one (more_lines f (entry_of a.m)) (lines-some f a.m (sym c.more_lines.ensures ∙ c.if-more_lines.true)) refl (omega (arith, start.0 tree l, lines-length f a.m)),
+      measured-one (more_lines f (entry_of a.m)) (lines-some f a.m (sym c.more_lines.ensures ∙ c.if-more_lines.true)) refl (omega (arith, start.0, lines-length f a.m)),
       omega arith,
       omega arith,
     )
@@ -22,4 +21,4 @@ returns-then-more_lines c =
 pub returns : goal.returns
 returns c =
     let a = c.args in
-    (λ tree l. measured-none (lines_none (shown tree a.f) a.m (sym c.more_lines.ensures ∙ c.if-more_lines.false)) refl refl, omega arith, omega arith)
+    (measured-none (lines_none (shown a.f) a.m (sym c.more_lines.ensures ∙ c.if-more_lines.false)) refl refl, omega arith, omega arith)

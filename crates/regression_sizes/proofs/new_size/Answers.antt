@@ -9,15 +9,13 @@ use Rattle.regression_sizes.proofs.new_size.Goals as goal
 pub returns-then-is_over : goal.returns-then-is_over
 returns-then-is_over c =
     let a = c.args in
-    let over = c.is_over.ensures in
+    let f = shown a.f in
     let start = c.start_length-start.ensures in
     let first = c.digits.ensures in
     let second = c.digits-then-is_over.ensures in
     let third = c.digits-then-is_over-2.ensures in
     let fourth = c.digits-then-is_over-3.ensures in (
-      λ tree l.
-          let f = shown tree a.f in
-          measured-one (new_and_over f) (new_some (limits_of a.limits) f (sym (over tree) ∙ c.if-is_over.true)) refl (omega (arith, start.0 tree l, new_length_lem f)),
+      measured-one (new_and_over f) (new_some (limits_of a.limits) f (sym c.is_over.ensures ∙ c.if-is_over.true)) refl (omega (arith, start.0, new_length_lem f)),
       omega arith,
       omega arith,
     )
@@ -25,4 +23,4 @@ returns-then-is_over c =
 pub returns : goal.returns
 returns c =
     let a = c.args in
-    (λ tree l. measured-none (new_none (limits_of a.limits) (shown tree a.f) (sym (c.is_over.ensures tree) ∙ c.if-is_over.false)) refl refl, omega arith, omega arith)
+    (measured-none (new_none (limits_of a.limits) (shown a.f) (sym c.is_over.ensures ∙ c.if-is_over.false)) refl refl, omega arith, omega arith)

@@ -5,14 +5,8 @@ use Rattle.functions.specs.Shown.{limits_of, shown}
 use Rattle.regression_sizes.specs.Lines.{Measured, accepts}
 use Rattle.regression_sizes.proofs.size_against.Goals as goal
 
-pub returns-in-Measures : goal.returns-in-Measures
-returns-in-Measures c =
-    let a = c.args in
-    let size = c.grown_size.ensures in
-    (λ tree l. subst (Measured c.grown_size.result) (sym (ap (accepts (limits_of a.limits) (shown tree a.f)) c.in-Measures.is)) (size.0 tree l), size.1, size.2)
-
-pub returns-in-Unlisted : goal.returns-in-Unlisted
-returns-in-Unlisted c =
+pub returns-in-None : goal.returns-in-None
+returns-in-None c =
     let a = c.args in
     let size = c.new_size.ensures in
-    (λ tree l. subst (Measured c.new_size.result) (sym (ap (accepts (limits_of a.limits) (shown tree a.f)) c.in-Unlisted.is)) (size.0 tree l), omega arith, omega arith)
+    (subst (Measured c.new_size.result) (sym (ap (accepts (limits_of a.limits) (shown a.f)) c.in-None.is)) size.0, omega arith, omega arith)

@@ -5,32 +5,30 @@ use Rattle.gate_rules.specs.Gate.{gate}
 use Rattle.gate_rules.specs.Scan.{functions_of}
 use Rattle.gate_rules.proofs.TreeSizes.{tree_branches}
 use Rattle.functions.specs.Shown.{limits_of}
+use Rattle.functions.proofs.ShortLaws.{short_read}
 use Rattle.report_functions.specs.Counting.{Told, branches_room, counting_all, counting_next, counting_none}
 use Rattle.report_functions.proofs.count.Goals as goal
 
 pub loop-k-init : goal.loop-k-init
-loop-k-init c = (omega arith, counting_none _ _)
-
-pub function_at-f-requires : goal.function_at-f-requires
-function_at-f-requires c = (c.requires.0, omega arith)
+loop-k-init c = counting_none _ _
 
 pub counted-c-requires : goal.counted-c-requires
 counted-c-requires c =
-    let a = c.args in
-    let f = c.function_at-f.ensures in
-    let n = c.loop-k.invariant.1 in
-    let size = tree_branches a.tree.now c.requires.0.unrefused in
-    let room = branches_room (limits_of a.limits) (functions_of gate a.tree.now) c.loop-k.k (omega arith) c.loop-k.c n in
-    (f.1, size.1, omega (arith, n.few, c.requires.0.few), omega (arith, n.short, c.requires.0.few), omega (arith, room, size, ap (λ g. g.cyclomatic) f.0))
+    let fs = c.args.functions in
+    let n = c.loop-k.invariant in
+    let few = fs.stand.few in
+    let size = tree_branches fs.tree.now fs.stand.unrefused in
+    let room = branches_room (limits_of c.args.limits) (functions_of gate fs.tree.now) c.loop-k.k (omega (arith, fs.all)) c.loop-k.c n in
+    (short_read c.get.result c.loop-k.k fs.stand c.get.ensures (omega (arith, fs.all)), omega (arith, n.few, fs.all), omega (arith, n.short, fs.all), omega (arith, room, size, ap (λ g. g.cyclomatic) c.get.ensures))
 
 pub loop-k-preserved : goal.loop-k-preserved
 loop-k-preserved c =
-    let a = c.args in
-    let f = c.function_at-f.ensures in
-    let t = subst (λ g. Told (limits_of a.limits) g c.loop-k.c c.counted-c.result) f.0 c.counted-c.ensures.0 in
-    (omega arith, counting_next (limits_of a.limits) (functions_of gate a.tree.now) c.loop-k.k (omega arith) c.loop-k.c c.loop-k.invariant.1 c.counted-c.result t c.counted-c.ensures.1)
+    let fs = c.args.functions in
+    let L = limits_of c.args.limits in
+    let t = subst (λ g. Told L g c.loop-k.c c.counted-c.result) c.get.ensures c.counted-c.ensures.0 in
+    counting_next L (functions_of gate fs.tree.now) c.loop-k.k (omega (arith, fs.all)) c.loop-k.c c.loop-k.invariant c.counted-c.result t c.counted-c.ensures.1
 
 pub returns : goal.returns
 returns c =
-    let a = c.args in
-    counting_all (limits_of a.limits) (functions_of gate a.tree.now) c.loop-k.k c.loop-k.c c.loop-k.invariant.1 (omega (arith, c.requires.1))
+    let fs = c.args.functions in
+    counting_all (limits_of c.args.limits) (functions_of gate fs.tree.now) c.loop-k.k c.loop-k.c c.loop-k.invariant (omega (arith, fs.all, c.loop-k-test.false))

@@ -2,21 +2,14 @@
 -- lies in the text.
 use Prim.Native.Nat.{ℕ}
 use mathlib.Core.Path.{◌∙◌, ap, subst}
-use native.Mathlib.Omega.{arith}
 use Rattle.std.proofs.Common.{Option, Some}
 use Rattle.flat.specs.Body.{body_from}
 use Rattle.memo.specs.Memo.{Known}
 use Rattle.parts.specs.Told.{no-brace}
-use Rattle.signatures.specs.Signatures.{number-most}
 use Rattle.signatures.proofs.marked_body.Goals as goal
 
-pub returns-in-Some-None : goal.returns-in-Some-None
-returns-in-Some-None c =
+pub returns-in-Some-None-clause-begins : goal.returns-in-Some-None-clause-begins
+returns-in-Some-None-clause-begins c =
     let a = c.args in
     let none = subst (λ (r : Option (Option ℕ)). Known r (body_from a.s.now a.mark a.n)) (c.in-Some-None.is ∙ ap Some c.in-Some-None.field-0-is) c.recall.ensures.0 in
-    (no-brace a.closed c.requires.3 (c.requires.4 ∙ none), (c.requires.5.0, c.recall.ensures.2))
-
-pub keep-requires-clause-fits : goal.keep-requires-clause-fits
-keep-requires-clause-fits c =
-    let a = c.args in
-    rw c.body_of.ensures (omega (arith, number-most a.s.now a.from c.further_body-went.result.sought c.further_body-went.ensures.0, c.well_formed.0))
+    no-brace a.closed c.requires.3 (c.requires.4 ∙ none)

@@ -27,8 +27,8 @@ marked_body-requires c =
     let begins = (nothing-begins a.s.now a.closed _ (nothing_same c.default.result c.default.ensures)).1 in
     (omega (arith, c.mark_after-mark.ensures, i), omega (arith, c.mark_after-mark.ensures), e.1, c.requires.0, begins ∙ e.0, c.requires.1)
 
-pub returns-in-Ended : goal.returns-in-Ended
-returns-in-Ended c =
+pub returns-in-Ended-clause-begins : goal.returns-in-Ended-clause-begins
+returns-in-Ended-clause-begins c =
     let a = c.args in
     let e = subst (Reaches a.s.now (a.closed + 1) c.mark_after-mark.result c.default.result) c.in-Ended.is c.body_before-met.ensures in
-    (no-brace a.closed c.requires.0 ((nothing-begins a.s.now a.closed _ (nothing_same c.default.result c.default.ensures)).1 ∙ e), c.requires.1)
+    no-brace a.closed c.requires.0 ((nothing-begins a.s.now a.closed _ (nothing_same c.default.result c.default.ensures)).1 ∙ e)

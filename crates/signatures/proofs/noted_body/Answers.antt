@@ -8,15 +8,15 @@ use Rattle.signatures.specs.Signatures.{follows_begins}
 use Rattle.windows.specs.declared.Note.TheVariants.{Broken}
 use Rattle.signatures.proofs.noted_body.Goals as goal
 
-pub returns-then-near-s : goal.returns-then-near-s
-returns-then-near-s c =
+pub returns-then-near-s-clause-begins : goal.returns-then-near-s-clause-begins
+returns-then-near-s-clause-begins c =
     let a = c.args in
-    (no-brace a.closed c.requires.3 (c.requires.4 ∙ body_end a.s.now a.near (omega (arith, c.if-near-s.true)) _ _ _), c.requires.5)
+    no-brace a.closed c.requires.3 (c.requires.4 ∙ body_end a.s.now a.near (omega (arith, c.if-near-s.true)) _ _ _)
 
-pub returns-in-Broken : goal.returns-in-Broken
-returns-in-Broken c = (note_tells c.args.s.now _ c.args.from Broken c.look_up.ensures.0 c.in-Broken.ensures, c.look_up.ensures)
+pub returns-in-Broken-clause-begins : goal.returns-in-Broken-clause-begins
+returns-in-Broken-clause-begins c = note_tells c.args.s.now _ c.args.from Broken c.look_up.ensures.lent.0.0 c.in-Broken.ensures
 
-pub returns-in-Nothing : goal.returns-in-Nothing
-returns-in-Nothing c =
+pub returns-in-Nothing-clause-begins : goal.returns-in-Nothing-clause-begins
+returns-in-Nothing-clause-begins c =
     let a = c.args in
-    (follows_begins a.s.now a.from a.closed c.far_body.result c.requires.3 c.far_body.ensures, c.look_up.ensures)
+    follows_begins a.s.now a.from a.closed c.far_body.result c.requires.3 c.far_body.ensures

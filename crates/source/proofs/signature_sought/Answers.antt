@@ -9,7 +9,7 @@ use Rattle.source_rules.proofs.FindingLaws.{body-brace}
 use Rattle.source_rules.proofs.PlaceLaws.{body-place, find-place, no_body, no_list, open_body, open_list, partner-place, whole}
 use Rattle.search.specs.Place.{place_of}
 use Rattle.parts.specs.Told.{NoBody, no-brace, no_end}
-use Rattle.signatures.specs.Signatures.{Begins, Lends}
+use Rattle.signatures.specs.Signatures.{Begins, LendsIn}
 use Rattle.signatures.specs.declared.Signature.{Signature}
 use Rattle.source.specs.Cursors.{Barren, Blocked}
 use Rattle.source.proofs.signature_sought.Goals as goal
@@ -55,7 +55,7 @@ brackets_after-requires c =
     let to = c.args.to in
     let opened = c.in-Some.opened in
     let e₁ : find round_open to (drop to s) ≡ some opened = there s _ to c.text-s.ensures _ c.find.ensures opened c.in-Some.is in
-    (omega (arith, ap length c.text-s.ensures, find-place s to opened round_open e₁), subst (λ t. Lends t c.args.noted.now c.args.sums.now c.args.kept.now) (sym c.text-s.ensures) c.requires)
+    (omega (arith, ap length c.text-s.ensures, find-place s to opened round_open e₁), subst (λ t. LendsIn t c.args.notes.now) (sym c.text-s.ensures) c.requires)
 
 pub returns-in_default-brackets_after-clause-signed : goal.returns-in_default-brackets_after-clause-signed
 unfolding Barren
@@ -64,7 +64,7 @@ returns-in_default-brackets_after-clause-signed c =
     let to = c.args.to in
     let opened = c.in-Some.opened in
     let e₁ : find round_open to (drop to s) ≡ some opened = there s _ to c.text-s.ensures _ c.find.ensures opened c.in-Some.is in
-    let gone = none_before s to opened e₁ (begins s _ c.text-s.ensures (opened + 1) _ c.brackets_after.ensures.0 None c.in_default-brackets_after.is) in
+    let gone = none_before s to opened e₁ (begins s _ c.text-s.ensures (opened + 1) _ c.brackets_after.ensures.begins None c.in_default-brackets_after.is) in
     record { none_here = λ from. gone from to (omega arith) (omega (arith, find-place s to opened round_open e₁)); no_function = gone }
 
 pub block_at-block-requires-clause-inside : goal.block_at-block-requires-clause-inside
@@ -74,7 +74,7 @@ block_at-block-requires-clause-inside c =
     let opened = c.in-Some.opened in
     let e₁ : find round_open to (drop to s) ≡ some opened = there s _ to c.text-s.ensures _ c.find.ensures opened c.in-Some.is in
     let p = c.in-Some-brackets_after.field-0 in
-    let both = begins s _ c.text-s.ensures (opened + 1) _ c.brackets_after.ensures.0 (Some p) c.in-Some-brackets_after.is in
+    let both = begins s _ c.text-s.ensures (opened + 1) _ c.brackets_after.ensures.begins (Some p) c.in-Some-brackets_after.is in
     (body-place s (p.closed + 1) p.body both.1).1
 
 pub block_at-block-requires-clause-brace : goal.block_at-block-requires-clause-brace
@@ -84,7 +84,7 @@ block_at-block-requires-clause-brace c =
     let opened = c.in-Some.opened in
     let e₁ : find round_open to (drop to s) ≡ some opened = there s _ to c.text-s.ensures _ c.find.ensures opened c.in-Some.is in
     let p = c.in-Some-brackets_after.field-0 in
-    let both = begins s _ c.text-s.ensures (opened + 1) _ c.brackets_after.ensures.0 (Some p) c.in-Some-brackets_after.is in
+    let both = begins s _ c.text-s.ensures (opened + 1) _ c.brackets_after.ensures.begins (Some p) c.in-Some-brackets_after.is in
     brace-there s (p.closed + 1) p.body (body-place s (p.closed + 1) p.body both.1).0 both.1
 
 pub returns-in-None-clause-signed : goal.returns-in-None-clause-signed
@@ -95,7 +95,7 @@ returns-in-None-clause-signed c =
     let opened = c.in-Some.opened in
     let e₁ : find round_open to (drop to s) ≡ some opened = there s _ to c.text-s.ensures _ c.find.ensures opened c.in-Some.is in
     let p = c.in-Some-brackets_after.field-0 in
-    let both = begins s _ c.text-s.ensures (opened + 1) _ c.brackets_after.ensures.0 (Some p) c.in-Some-brackets_after.is in
+    let both = begins s _ c.text-s.ensures (opened + 1) _ c.brackets_after.ensures.begins (Some p) c.in-Some-brackets_after.is in
     let never = subst (Blocked s p.body) c.in-None.is c.block_at-block.ensures.block in
     let gone = open_body s to opened e₁ p.closed both.0 p.body both.1 never in
     record { none_here = λ from. gone from to (omega arith) (omega (arith, find-place s to opened round_open e₁)); no_function = gone }
@@ -107,7 +107,7 @@ returns-in-Some-block-clause-signed c =
     let opened = c.in-Some.opened in
     let e₁ : find round_open to (drop to s) ≡ some opened = there s _ to c.text-s.ensures _ c.find.ensures opened c.in-Some.is in
     let p = c.in-Some-brackets_after.field-0 in
-    let both = begins s _ c.text-s.ensures (opened + 1) _ c.brackets_after.ensures.0 (Some p) c.in-Some-brackets_after.is in
+    let both = begins s _ c.text-s.ensures (opened + 1) _ c.brackets_after.ensures.begins (Some p) c.in-Some-brackets_after.is in
     let block = subst (Blocked s p.body) c.in-Some-block.is c.block_at-block.ensures.block in
     let end = c.in-Some-block.b.end in
     let i₁ = find-place s to opened round_open e₁ in

@@ -1,7 +1,7 @@
 -- `parts::Pass::note_closed` meets its contract: the numbers that are set tell of a bracket where it is closed and where a body begins behind it, or that
 -- none does.
 use Rattle.std.proofs.Common.{◌<◌, get_or, subst, sym, arith}
-use Rattle.parts.specs.Filling.{Window, told-closed, window-set}
+use Rattle.parts.specs.Filling.{Window, closes_note, told-closed, window-set}
 use Rattle.parts.proofs.Notes.{small_note}
 use Rattle.parts.proofs.Pass.note_closed.Goals as goal
 
@@ -26,4 +26,5 @@ loop-k-preserved c =
     subst (Window p.text.now p.from p.many) (sym c.put.ensures)
     (rw c.from.ensures
     (window-set p.text.now c.loop-k.m p.from p.many i _ _ c.loop-k.invariant (o.closed k h).within
-    (told-closed p.text.now p.from p.many i _ _ (o.closed k h) small (f.none-there k h) (λ b. f.brace-there k b h) _ c.closed_note.ensures)))
+    (told-closed p.text.now p.from p.many i _ _ _ _ (o.closed k h) small (f.none-there k h) (λ b. f.brace-there k b h)
+    (closes_note _ _ _ (o.closed k h).least c.closed_note.ensures))))

@@ -1,6 +1,6 @@
 -- Each turn leaves the functions that are still to come, until one is found or the text ends.
 use Rattle.std.proofs.Common.{◌-◌, ◌≤◌, ◌≡◌, length}
-use Rattle.signatures.specs.Signatures.{Lends}
+use Rattle.signatures.specs.Signatures.{LendsIn}
 use Rattle.source.specs.Cursors.{Ready, remaining}
 use Rattle.source.proofs.Cursor.next.Given as goal
 
@@ -10,7 +10,7 @@ invariant-loop-self l =
       ready : Ready l.s l.self;
       same : remaining l.s l.self ≡ remaining l.s l.initial.self;
       further : l.initial.self.at ≤ l.self.at;
-      lent : Lends l.s l.noted l.sums l.kept;
+      lent : LendsIn l.s l.notes;
     }
 
 abbrev pub decreases-loop-self : goal.decreases-loop-self

@@ -1,29 +1,32 @@
 -- `tokens::Cursor::raw_letters` meets its contract: the definition's two tests, in its order.
-use mathlib.Core.Path.{◌∙◌, ◌≡◌, ap, sym}
-use mathlib.Core.Bool.{◌&&◌, true}
-use Prim.Native.Nat.{◌+◌, ℕ}
-use native.Mathlib.Omega.{arith}
-use borrow.Author.Tests.{eqb-true}
-use lib.Dec.{eqb}
-use lib.ListN.{get_or}
-use Rattle.text_rules.specs.BytesLaws.{and_right}
+use Rattle.std.proofs.Common.{ℕ, ◌+◌, ◌∙◌, arith, get_or, sym}
 use Rattle.text_rules.proofs.SearchLaws.{in_text}
+use Rattle.tokens.proofs.Bodies.{other-first, other-second, pair_there}
 use Rattle.tokens.proofs.Rules.{letters_none, letters_one, letters_two}
 use Rattle.tokens.proofs.Cursor.raw_letters.Goals as goal
 
-pub returns-then-s-at-eq114 : goal.returns-then-s-at-eq114
-returns-then-s-at-eq114 c = let a = c.args in
-    omega (arith, letters_one a.s.now a.self.at c.if-s-at-eq114.true)
+pub returns-in-114-default : goal.returns-in-114-default
+returns-in-114-default c = let a = c.args in let e = letters_one a.s.now a.self.at c.in-114-default.is-0 in
+    record { some = omega (arith, e); place = omega (arith, e); inside = omega arith }
 
-pub returns-then-pair : goal.returns-then-pair
-returns-then-pair c = let a = c.args in
+pub returns-in-98-eq114 : goal.returns-in-98-eq114
+returns-in-98-eq114 c =
+    let a = c.args in
+    let w = c.in-98-eq114 in
     let first = get_or a.s.now a.self.at 0 in
     let next = get_or a.s.now (a.self.at + 1) 0 in
-    let t : (eqb first 98 && eqb next 114) ≡ true = ap (λ (k : ℕ). eqb first 98 && eqb k 114) (sym c.byte.ensures) ∙ sym c.pair.ensures ∙ c.if-pair.true in
-    let e = eqb-true next 114 (and_right (eqb first 98) (eqb next 114) t) in
-    omega (arith, letters_two a.s.now a.self.at c.if-s-at-eq114.false t, in_text a.s.now (a.self.at + 1) (omega arith))
+    let n = sym c.byte.ensures ∙ w.is-1 in
+    let e = letters_two a.s.now a.self.at (λ z. omega (arith, z, w.is-0)) (pair_there first next 98 114 w.is-0 n) in
+    record { some = omega (arith, e); place = omega (arith, e); inside = omega (arith, in_text a.s.now (a.self.at + 1) (omega (arith, n))) }
 
-pub returns : goal.returns
-returns c = let a = c.args in
-    let first = get_or a.s.now a.self.at 0 in
-    omega (arith, letters_none a.s.now a.self.at c.if-s-at-eq114.false (ap (λ (k : ℕ). eqb first 98 && eqb k 114) (sym c.byte.ensures) ∙ sym c.pair.ensures ∙ c.if-pair.false))
+pub returns-in_default : goal.returns-in_default
+returns-in_default c =
+    let a = c.args in
+    let w = c.in_default in
+    letters_none a.s.now a.self.at (λ z. omega (arith, z, w.is-0)) (other-second _ _ 98 114 (λ z. w.is-1.1 (c.byte.ensures ∙ z)))
+
+pub returns-in_default-2 : goal.returns-in_default-2
+returns-in_default-2 c =
+    let a = c.args in
+    let w = c.in_default in
+    letters_none a.s.now a.self.at w.is-0.0.1 (other-first _ _ 98 114 w.is-0.1)

@@ -1,7 +1,0 @@
--- Each byte that is written leaves the finished output the same.
-use mathlib.Core.Path.{◌≡◌}
-use Rattle.blanking.specs.Bare.{finished}
-use Rattle.blanking.proofs.copy.Given as goal
-
-abbrev pub invariant-loop-at : goal.invariant-loop-at
-invariant-loop-at l = finished l.text l.output l.at l.at ≡ finished l.text l.initial.output l.from l.from

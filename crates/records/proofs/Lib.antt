@@ -1,2 +1,0 @@
--- The law that the writer cites.
-pub mod Parts

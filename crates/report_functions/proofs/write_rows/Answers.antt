@@ -1,0 +1,31 @@
+-- `report_functions::write_rows` meets its contract: at each turn the rows of the functions that are still to take are still to be written.
+use mathlib.Core.Path.{ap, subst, ◌∙◌}
+use native.Mathlib.Omega.{arith}
+use lib.ListN.{length}
+use Rattle.gate_rules.specs.Gate.{gate}
+use Rattle.gate_rules.specs.Scan.{functions_of}
+use Rattle.gate_rules.specs.Report.{report_row, report_rows}
+use Rattle.functions.specs.Shown.{limits_of, shown}
+use Rattle.listing.specs.Writes.{Writes, remains_all, remains_next, remains_none, remains_room}
+use Rattle.report_functions.specs.Rows.{no_rows, one-row, reported-is}
+use Rattle.report_functions.proofs.write_rows.Goals as goal
+
+pub loop-f-init : goal.loop-f-init
+loop-f-init c =
+    let e = ap (λ fs. length (report_rows fs)) (c.new-ranking.ensures ∙ reported-is (limits_of c.args.limits) (functions_of gate c.args.functions.tree.now)) in
+    remains_all (omega (arith, c.requires, e))
+
+pub write_row-requires : goal.write_row-requires
+write_row-requires c =
+    let f = shown c.in-Some.f in
+    remains_room (report_row f) (report_rows c.next.new.self) c.loop-f.invariant (ap report_rows c.in-Some.ensures ∙ one-row f c.next.new.self)
+
+pub loop-f-preserved : goal.loop-f-preserved
+loop-f-preserved c =
+    let f = shown c.in-Some.f in
+    remains_next (report_rows c.next.new.self) c.loop-f.invariant (ap report_rows c.in-Some.ensures ∙ one-row f c.next.new.self) c.write_row.ensures
+
+pub returns : goal.returns
+returns c =
+    subst (λ fs. Writes (report_rows fs) c.args.w.now c.loop-f.w) (c.new-ranking.ensures ∙ reported-is (limits_of c.args.limits) (functions_of gate c.args.functions.tree.now))
+    (remains_none c.loop-f.invariant (ap report_rows (c.in_default.ensures {u = tt}).0 ∙ no_rows))

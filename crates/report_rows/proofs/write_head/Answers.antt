@@ -1,0 +1,8 @@
+-- `report_rows::write_head` meets its contract: each part is put behind the one before.
+use Rattle.listing.specs.Writes.{writes_last, writes_then}
+use Rattle.report_rows.proofs.write_head.Goals as goal
+
+pub returns : goal.returns
+returns c =
+    writes_then c.number.ensures (writes_then c.text.ensures (writes_then c.write_mean.ensures (writes_then c.text-2.ensures (writes_then c.number-2.ensures
+    (writes_last c.text-3.ensures)))))

@@ -1,0 +1,2 @@
+-- The laws that the writer of several numbers cites.
+pub mod Numbers
