@@ -2,23 +2,25 @@
 // are is told for all searches together.
 #![tactic(auto)]
 
-ghost use Rattle.std.specs.Prelude.{◌≡◌, ℕ, ◌+◌, ◌≤◌, ◌<◌, MatchOption};
+ghost use Rattle.std.specs.Prelude.{◌≡◌, ℕ, ◌+◌, ◌-◌, ◌≤◌, ◌<◌, ◌∷◌, Some, MatchOption, OnSome};
+ghost use Rattle.arrayvec.specs.ArrayVec.{array_vec_len};
 ghost use Rattle.source_rules.specs.Finding.{angle_after};
-ghost use Rattle.angles.specs.Angles.{less, more};
-ghost use Rattle.angles.specs.Groups.{NoTop, Stands, Top, Turns, above_in, boundary_in, pushed};
+ghost use Rattle.angles.specs.Angles.{IsBehind, last_of, less, more, others_of, resized};
+ghost use Rattle.angles.specs.Groups.{Stands, Turns, above_in, boundary_in, groups_of};
+
+use arrayvec::ArrayVec;
 
 // The brackets that were opened while as many searches had begun: how many searches these are, and how many of the brackets are open.
-#[derive(Clone, Copy)]
+#[derive(Clone, Copy, Default)]
 pub struct Group {
     begun: u16,
     size: u32,
 }
 
-// The groups that are not empty, the last one on top. Kept as an array with its height: a search takes no memory from the heap.
+// The groups that are not empty, the last one on top.
 #[derive(Drop)]
 pub struct Groups {
-    height: usize,
-    groups: [Group; 2049],
+    groups: ArrayVec<Group, 2049>,
 }
 
 impl Groups {
@@ -27,17 +29,53 @@ impl Groups {
         ensures { (at : ℕ) → Stands result 0 at }
     {
         Groups {
-            height: 0,
-            groups: [Group { begun: 0, size: 0 }; 2049],
+            groups: ArrayVec::new(),
         }
     }
 
     // The last group.
     fn top(&self) -> Option<Group>
-        ensures { MatchOption result (NoTop self.now) (Top self.now) }
+        ensures value { result ≡ last_of (groups_of self.now) }
+        ensures some { OnSome result (0 < array_vec_len self.now.groups) }
     {
-        let last = self.height.checked_sub(1)?;
-        self.groups.get(last).copied()
+        self.groups.last().copied()
+    }
+
+    // The last group, if no search has begun since it began.
+    fn own(&self, next: usize) -> Option<Group>
+        ensures { MatchOption result (IsBehind next (groups_of self.now)) (λ g. (last_of (groups_of self.now) ≡ Some g) × (g.begun ≡ next)) }
+    {
+        let g = self.top()?;
+        if usize::from(g.begun) == next {
+            Some(g)
+        } else {
+            None
+        }
+    }
+
+    // The last group is gone.
+    fn pop(&mut self)
+        ensures others { groups_of self.new ≡ others_of (groups_of self.old) }
+        ensures fewer { array_vec_len self.new.groups ≡ array_vec_len self.old.groups - 1 }
+    {
+        self.groups.pop();
+    }
+
+    // The last group has another size.
+    fn resize(&mut self, size: u32)
+        ensures { groups_of self.new ≡ resized size (groups_of self.old) }
+    {
+        if let Some(g) = self.groups.last_mut() {
+            g.size = size;
+        }
+    }
+
+    // A group behind the others.
+    fn push(&mut self, g: Group)
+        requires room { array_vec_len self.old.groups < 2049 }
+        ensures { groups_of self.new ≡ g ∷ groups_of self.old }
+    {
+        self.groups.push(g);
     }
 
     // Searches that began before it are inside an angle bracket that is open, and no others.
@@ -50,20 +88,6 @@ impl Groups {
         }
     }
 
-    // A group of some brackets.
-    fn push(&mut self, n: usize, next: usize)
-        requires few { n ≤ 4294967292 }
-        requires begun { next ≤ 2048 }
-        requires room { self.old.height ≤ 2048 }
-        ensures { self.new ≡ pushed self.old n next }
-    {
-        self.groups[self.height] = Group {
-            begun: next as u16,
-            size: n as u32,
-        };
-        self.height += 1;
-    }
-
     // Some brackets are opened. They belong to the last group if no search has begun since that one began.
     pub fn open(&mut self, n: usize, next: usize, at: usize)
         requires few { at + n ≤ 4294967292 }
@@ -73,11 +97,12 @@ impl Groups {
         if n == 0 {
             return;
         }
-        match self.top() {
-            Some(g) if usize::from(g.begun) == next => {
-                self.groups[self.height - 1].size = g.size + n as u32;
-            }
-            _ => self.push(n, next),
+        match self.own(next) {
+            Some(g) => self.resize(g.size + n as u32),
+            None => self.push(Group {
+                begun: next as u16,
+                size: n as u32,
+            }),
         }
     }
 
@@ -89,11 +114,11 @@ impl Groups {
         while let Some(g) = self.top() {
             let size = g.size as usize;
             if left < size {
-                self.groups[self.height - 1].size = (size - left) as u32;
+                self.resize((size - left) as u32);
                 return;
             }
             left -= size;
-            self.height -= 1;
+            self.pop();
         }
     }
 
@@ -115,9 +140,9 @@ impl Groups {
         requires { Stands self.now next at }
         ensures { (i : ℕ) → i < next → result ≤ above_in self.now i }
     {
-        match self.top() {
-            Some(g) if usize::from(g.begun) == next => g.size as usize,
-            _ => 0,
+        match self.own(next) {
+            Some(g) => g.size as usize,
+            None => 0,
         }
     }
 }

@@ -6,29 +6,26 @@ use mathlib.Core.Bool.{true, not}
 use mathlib.Core.List.{List, [], ◌∷◌}
 use mathlib.Core.Option.{some}
 use native.Mathlib.Omega.{arith}
-use lib.Dec.{eqb, leb, ltb}
-use lib.ListN.{length, drop, get_or, length-drop, length-take}
-use lib.Seq.{get_or-drop, get_or-take}
-use borrow.Author.Tests.{eqb-false, eqb-true, le-leb, leb-true, lt-ltb, ltb-false, ltb-true}
-use Rattle.text_rules.specs.BytesLaws.{and_left, and_right, whether}
+use lib.Dec.{eqb, ltb}
+use lib.ListN.{length, take, drop, get_or, length-drop, length-take}
+use lib.Seq.{get_or-drop, get_or-take, take-take}
+use borrow.Author.Tests.{eqb-false, eqb-true, le-leb, lt-ltb, ltb-false, ltb-true}
+use Rattle.text_rules.specs.BytesLaws.{whether}
 use Rattle.text_rules.specs.Classes.{is_digit}
 use Rattle.text_rules.specs.Decimal.{all_digits, parse_number, value_from}
+use Rattle.text_rules.proofs.ClassesLaws.{digit_range_lem}
 use Rattle.text_rules.proofs.LineForms.{trim-other}
 use Rattle.text_rules.proofs.ScanLaws.{bytes_before-stop, run_end}
 use Rattle.text_rules.specs.Search.{bytes_before, part}
 use Rattle.baseline.specs.Plain.{Digits, Front, NumberField, PlainLine, Text, to-mark}
-use Rattle.baseline.specs.Reads.{Inside}
+use Rattle.baseline.specs.Reads.{Inside, KeyFrom}
 use Rattle.std.specs.Prelude.{Some}
 use Rattle.baseline.specs.declared.Listed.{Listed}
 use Rattle.baseline.specs.Fields.{both_read, four-fields}
-use Rattle.baseline.proofs.KeyBounds.{key-some}
+use Rattle.baseline.proofs.KeyBounds.{key-from, key-some}
 use Rattle.baseline.proofs.Numbers.{numeral-start, plus_none}
 
 -- ---- numbers of at most nine digits
-
-pub digit_range_lem : (b : ℕ) → is_digit b ≡ true → (48 ≤ b) × (b ≤ 57)
-unfolding is_digit
-digit_range_lem b e = (leb-true 48 b (and_left (leb 48 b) (leb b 57) e), leb-true b 57 (and_right (leb 48 b) (leb b 57) e))
 
 -- the largest number with k digits behind those that made n
 most : (n k : ℕ) → ℕ
@@ -57,10 +54,10 @@ DigitsIn t = (i : ℕ) → i < length t → is_digit (get_or t i 0) ≡ true
 rest-digits : (b : ℕ) (t : List ℕ) → DigitsIn (b ∷ t) → DigitsIn t
 rest-digits b t h i k = h (suc i) (omega arith)
 
-all_digits_lem : (t : List ℕ) → DigitsIn t → all_digits t ≡ true
+digits_all : (t : List ℕ) → DigitsIn t → all_digits t ≡ true
 unfolding all_digits
-all_digits_lem [] h = refl
-all_digits_lem (b ∷ t) h = rw (h 0 (omega arith)) (all_digits_lem t (rest-digits b t h))
+digits_all [] h = refl
+digits_all (b ∷ t) h = rw (h 0 (omega arith)) (digits_all t (rest-digits b t h))
 
 value_most : (n : ℕ) (t : List ℕ) → DigitsIn t → value_from n t ≤ most n (length t)
 unfolding value_from most
@@ -79,7 +76,7 @@ nine-digits limit t h some_digit few d =
     let small : value_from 0 t ≤ limit = omega (arith, value_most 0 t d, most_up (9 - length t) (length t) (omega arith)) in
     plus_none limit t (λ e. omega arith)
     ∙ sym (numeral-start limit t (λ e. omega arith))
-    ∙ rw (all_digits_lem t d, le-leb (value_from 0 t) limit small)
+    ∙ rw (digits_all t d, le-leb (value_from 0 t) limit small)
 
 -- ---- places
 
@@ -178,16 +175,18 @@ module _ (s : List ℕ) (from a b c d : ℕ) (f : Front s from a b) (mb : get_or
       (λ i o p. n.digits i (omega arith) (omega arith)) in
       let listed : Listed = record { path_end = a - from; name_end = b - from; cyclomatic = value_from 0 (part (b - from + 1) (c - from) line); lines = value_from 0 (part (c - from + 1) (d - from) line) } in
       let inside : Inside line (Some listed) = (omega (arith, order), omega (arith, order, size), line-byte s from d h k (a - from) (omega (arith, order)) ∙ ta) in
-      let key = key-some s from d k (Some listed) inside (both_read _ _ _ _ _ _ x y ∙ sym fields) listed refl in
+      let is = both_read _ _ _ _ _ _ x y ∙ sym fields in
+      let key : part from b s ≡ take (b - from) line = sym (take-take (b - from) (d - from) (drop from s) (omega (arith, order))) in
       record {
         front = subst (λ (j : ℕ). Front s from j b) (sym la) f;
         stop = mb;
         ends = line-ends;
+        within = omega (arith, order);
         inside = n.inside;
         whole = rw (lt-ltb d (length s) n.inside) (sym (trim-other s from d (omega (arith, order)) k last_digit));
         path-is = omega (arith, ea);
-        key-is = ap (λ (j : ℕ). some (part from j s)) (sym lb) ∙ key.2;
-        key_in = (refl, omega (arith, order), omega (arith, order));
+        key-is = ap some key ∙ key-some line (Some listed) inside is listed refl;
+        key_from = subst (λ t. KeyFrom (some t) line (a - from)) (sym key) (key-from line (Some listed) inside is (a - from) refl listed refl);
       }
     where
       zero_more : (i : ℕ) → i ≡ i + 0

@@ -3,3 +3,4 @@ pub mod Fields
 pub mod Steps
 pub mod Plain
 pub mod Ordered
+pub mod LinesOf

@@ -1,6 +1,8 @@
 -- Keys that never fall, as in a baseline that update wrote.
 use Rattle.std.specs.Prelude.{ℕ, ◌+◌, ◌≤◌, ◌≡◌, refl, Bool, false, List, [], ◌∷◌, ◌++◌, map, length, drop}
 use Rattle.std.proofs.Common.{ap, sym, ◌∙◌, inl, inr, append_assoc, append-nil}
+use Rattle.std.specs.Coded.{Unit-prop, ×_prop}
+use Rattle.std.proofs.Math.Bool.{Bool-set}
 use Rattle.std.proofs.Math.Option.{Option, none, some}
 use Rattle.text_rules.specs.ByteOrder.{before_orders}
 use Rattle.text_rules.specs.Bytes.{All, before}
@@ -15,6 +17,15 @@ use Rattle.baseline.specs.Steps.{entries-end, entries_next, entry_list}
 abbrev pub Unfalling : List (List ℕ) → Type 0
 Unfalling [] = Unit {0}
 Unfalling (k ∷ ks) = All (λ j. before j k ≡ false) ks × Unfalling ks
+
+-- that has one proof at most
+All-prop : (P : List ℕ → Type 0) → ((k : List ℕ) → IsProp (P k)) → (ks : List (List ℕ)) → IsProp (All P ks)
+All-prop P h [] = Unit-prop
+All-prop P h (k ∷ ks) = ×_prop (h k) (All-prop P h ks)
+
+pub Unfalling-prop : (ks : List (List ℕ)) → IsProp (Unfalling ks)
+Unfalling-prop [] = Unit-prop
+Unfalling-prop (k ∷ ks) = ×_prop (All-prop (λ j. before j k ≡ false) (λ j. Bool-set (before j k) false) ks) (Unfalling-prop ks)
 
 -- the keys of a baseline's lines
 abbrev pub keys_in : List ℕ → List (List ℕ)

@@ -9,7 +9,6 @@ use Rattle.text_rules.specs.Search.{bytes_before, part}
 use Rattle.gate_rules.specs.Baseline.{entry_of}
 use Rattle.baseline.specs.Reads.{KeyFrom, key_of_entry, line_at}
 use Rattle.baseline.specs.declared.Bounds.{Bounds}
-use Rattle.baseline.specs.declared.Span.{Span}
 
 -- from one place up to another no byte is a tab or an LF, nor one below them
 abbrev pub Text : List ℕ → (from to : ℕ) → Type 0
@@ -37,21 +36,21 @@ pub record Front (s : List ℕ) (from a at : ℕ) : Type 0 where
   pub name : Text s (a + 1) at
   pub inside : at ≤ length s
 
--- a key that is told by its bounds is a path, a tab and a name without a tab or an LF
-abbrev pub PlainKey : List ℕ → Option Span → (path : ℕ) → Type 0
-PlainKey s (Some k) path = Front s k.from (k.from + path) k.to
-PlainKey s None path = ⊥
+-- a key is a path, a tab and a name without a tab or an LF
+abbrev pub PlainKey : (key : List ℕ) → (path : ℕ) → Type 0
+PlainKey k path = Front k 0 path (length k)
 
 -- a line with an entry: where it ends, its path and its key
 pub record PlainLine (s : List ℕ) (from path name end : ℕ) : Type 0 where
   pub front : Front s from (from + path) name
   pub stop : get_or s name 0 ≡ tab
   pub ends : end ≡ from + bytes_before 10 (drop from s)
+  pub within : name + 4 ≤ end
   pub inside : end < length s
   pub whole : part from end s ≡ line_at s from end
   pub path-is : path ≡ bytes_before tab (part from end s)
   pub key-is : some (part from name s) ≡ key_of_entry (entry_of (part from end s))
-  pub key_in : KeyFrom (Some (record { from = from; to = name })) from end path
+  pub key_from : KeyFrom (some (part from name s)) (part from end s) path
 
 abbrev pub ReadPlain : List ℕ → (from : ℕ) → Option Bounds → Type 0
 ReadPlain s from (Some l) = PlainLine s from l.path l.name l.end

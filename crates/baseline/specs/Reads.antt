@@ -1,14 +1,16 @@
 -- What the answers of this crate stand for, in the words of the rules.
-use Rattle.std.specs.Prelude.{ℕ, ◌+◌, ◌-◌, ◌<◌, ◌≤◌, ◌≡◌, List, Option, Some, None, ltb, length, get_or}
+use Rattle.std.specs.Prelude.{ℕ, ◌+◌, ◌<◌, ◌≤◌, ◌≡◌, List, Option, Some, None, ltb, length, take, get_or}
+use Rattle.std.specs.Borrow.{Bor}
 use Rattle.std.proofs.Math.Option.{Option as MathOption, none, some}
 use Rattle.text_rules.specs.Bytes.{if◌then◌otherwise◌, same}
 use Rattle.text_rules.specs.Classes.{tab}
 use Rattle.text_rules.specs.Lines.{without_cr}
 use Rattle.text_rules.specs.Search.{part}
 use Rattle.gate_rules.specs.Baseline.{Entry, entry_key}
+use Rattle.gate_rules.specs.Functions.{key_of}
+use Rattle.baseline.specs.declared.FunctionKey.{FunctionKey}
 use Rattle.baseline.specs.declared.Listed.{Listed}
 use Rattle.baseline.specs.declared.Recorded.{Recorded}
-use Rattle.baseline.specs.declared.Span.{Span}
 
 -- the line that begins at `from` and ends at `end`: where an LF ends it, it loses one CR
 abbrev pub line_at : List ℕ → (from end : ℕ) → List ℕ
@@ -39,19 +41,19 @@ abbrev pub hit : List ℕ → MathOption Entry → MathOption Entry
 hit k none = none
 hit k (some e) = if same (entry_key e) k then some e otherwise none
 
--- a key by its bounds, and the key of an entry
-abbrev pub key_in : List ℕ → Option Span → MathOption (List ℕ)
-key_in s (Some k) = some (part k.from k.to s)
-key_in s None = none
+-- the key that is made of a function's path and name
+abbrev pub key_bytes : FunctionKey → List ℕ
+key_bytes k = key_of k.path.now k.name.now
 
-abbrev pub KeyInside : List ℕ → Option Span → Type 0
-KeyInside s (Some k) = (k.from ≤ k.to) × (k.to ≤ length s)
-KeyInside s None = Unit {0}
+-- the bytes of a key, and the key of an entry
+abbrev pub key_text : Option (Bor (List ℕ)) → MathOption (List ℕ)
+key_text (Some k) = some k.now
+key_text None = none
 
--- a key begins where its line does, goes past the tab behind its path and ends in the line
-abbrev pub KeyFrom : Option Span → (from to path : ℕ) → Type 0
-KeyFrom (Some k) from to path = (k.from ≡ from) × (path < k.to - k.from) × (k.to ≤ to)
-KeyFrom None from to path = Unit {0}
+-- a key is the beginning of its line, and goes past the tab behind its path
+abbrev pub KeyFrom : MathOption (List ℕ) → (line : List ℕ) → (path : ℕ) → Type 0
+KeyFrom (some k) line path = (k ≡ take (length k) line) × (path < length k) × (length k ≤ length line)
+KeyFrom none line path = Unit {0}
 
 abbrev pub key_of_entry : MathOption Entry → MathOption (List ℕ)
 key_of_entry none = none

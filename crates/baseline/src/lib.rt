@@ -1,16 +1,17 @@
-// The baseline: its lines and their fields by their bounds, its numbers and its keys. Nothing is copied.
+// The baseline: its lines, their fields, its numbers and its keys. Lines and keys are parts of the text, and nothing is copied.
 #![tactic(auto)]
 
-ghost use Rattle.std.specs.Prelude.{◌≡◌, ℕ, true, false, ◌+◌, ◌*◌, ◌-◌, ◌≤◌, ◌<◌, ◌⊎◌, length, drop, get_or, MatchOption, IfSome};
+ghost use Rattle.std.specs.Prelude.{◌≡◌, true, false, ◌+◌, ◌*◌, ◌-◌, ◌≤◌, ◌<◌, ◌⊎◌, length, drop, get_or, MatchOption, IfSome};
 ghost use Rattle.text_rules.specs.Bytes.{same};
 ghost use Rattle.text_rules.specs.Classes.{is_digit, lf, tab};
 ghost use Rattle.text_rules.specs.Decimal.{numeral, parse_number};
 ghost use Rattle.text_rules.specs.Search.{bytes_before, part};
 ghost use Rattle.text_rules.specs.Utf8.{is_utf8};
 ghost use Rattle.gate_rules.specs.Baseline.{entry_of, entry_with};
-ghost use Rattle.gate_rules.specs.Functions.{key_of};
+ghost use Rattle.std.specs.Iterator.{at_most};
 ghost use Rattle.baseline.specs.Plain.{Digits, Front, NumberField, ReadPlain, Text};
-ghost use Rattle.baseline.specs.Reads.{Inside, KeyFrom, KeyInside, PathEnds, entry_in, key_in, key_of_entry, line_at, number_of};
+ghost use Rattle.baseline.specs.Reads.{Inside, KeyFrom, PathEnds, entry_in, key_bytes, key_of_entry, key_text, line_at, number_of};
+ghost use Rattle.baseline.specs.LinesOf.{LineAt, LinesGive};
 
 const TAB: u8 = b'\t';
 
@@ -39,7 +40,7 @@ pub fn line_end(s: &[u8], from: usize) -> usize
 }
 
 // Where the bytes of a line end: before one CR, where an LF ends the line.
-pub fn trimmed_end(s: &[u8], from: usize, end: usize) -> usize
+fn trimmed_end(s: &[u8], from: usize, end: usize) -> usize
     requires { (from ≤ end) × (end ≤ length s.now) }
     ensures { (part from result s.now ≡ line_at s.now from end) × (from ≤ result) × (result ≤ end) }
 {
@@ -53,6 +54,68 @@ pub fn trimmed_end(s: &[u8], from: usize, end: usize) -> usize
         return end - 1;
     }
     end
+}
+
+// A line: where it begins, its bytes, and where the line behind it begins.
+#[derive(Clone, Copy)]
+pub struct Line<'a> {
+    pub from: usize,
+    pub bytes: &'a [u8],
+    pub next: usize,
+}
+
+// The line that begins at a place.
+pub fn line_at(s: &[u8], from: usize) -> Line<'_>
+    requires { from ≤ length s.now }
+    ensures { LineAt s.now from result }
+{
+    let end = line_end(s, from);
+    let to = trimmed_end(s, from, end);
+    Line {
+        from,
+        bytes: &s[from..to],
+        next: end + 1,
+    }
+}
+
+// The lines of a text from a place on, in their order.
+#[derive(Clone, Copy)]
+pub struct Lines<'a> {
+    pub text: &'a [u8],
+    pub at: usize,
+}
+
+impl<'a> Lines<'a> {
+    // All lines of a text.
+    pub fn of(text: &'a [u8]) -> Lines<'a>
+        ensures { (result.text.now ≡ text.now) × (result.at ≡ 0) }
+    {
+        Lines { text, at: 0 }
+    }
+
+    // Those from a place on, at which a line begins.
+    pub fn from_place(text: &'a [u8], at: usize) -> Lines<'a>
+        ensures { (result.text.now ≡ text.now) × (result.at ≡ at) }
+    {
+        Lines { text, at }
+    }
+}
+
+impl<'a> Iterator for Lines<'a> {
+    type Item = Line<'a>;
+
+    ghost next_gives = { LinesGive };
+
+    ghost remaining = { λ s. at_most (length s.text.now - s.at) };
+
+    fn next(&mut self) -> Option<Line<'a>> {
+        if self.text.len() <= self.at {
+            return None;
+        }
+        let line = line_at(self.text, self.at);
+        self.at = line.next;
+        Some(line)
+    }
 }
 
 // Where a field of a line ends: at the next tab, or at the end of the line.
@@ -249,64 +312,46 @@ pub fn plain_line(s: &[u8], from: usize) -> Option<Bounds>
     plain_rest(s, from, a, a + 1)
 }
 
-// Whether the bytes are those of path, tab and name. The name is compared first: it tells the functions of a file apart.
-pub fn is_key(key: &[u8], path: &[u8], name: &[u8]) -> bool
-    ensures { result ≡ same key.now (key_of path.now name.now) }
-{
-    let n = path.len();
-    if key.len() <= n {
-        return false;
-    }
-    if key[n] != TAB {
-        return false;
-    }
-    if !order::same_bytes(&key[n + 1..], name) {
-        return false;
-    }
-    order::same_bytes(&key[..n], path)
-}
-
-// A part of a text, by its bounds. The key of an entry is one of the baseline.
+// The path and the name of a function, of which its key is made: path, tab and name.
 #[derive(Clone, Copy)]
-pub struct Span {
-    pub from: usize,
-    pub to: usize,
+pub struct FunctionKey<'a> {
+    pub path: &'a [u8],
+    pub name: &'a [u8],
 }
 
-impl Span {
-    // Its bytes.
-    pub fn of(self, s: &[u8]) -> &[u8]
-        requires { (self.from ≤ self.to) × (self.to ≤ length s.now) }
-        ensures { result.now ≡ part self.from self.to s.now }
+impl FunctionKey<'_> {
+    // Whether the bytes are those of the key. The name is compared first: it tells the functions of a file apart.
+    pub fn is(self, key: &[u8]) -> bool
+        ensures { result ≡ same key.now (key_bytes self.entry) }
     {
-        &s[self.from..self.to]
+        let n = self.path.len();
+        if key.len() <= n {
+            return false;
+        }
+        if key[n] != TAB {
+            return false;
+        }
+        if !order::same_bytes(&key[n + 1..], self.name) {
+            return false;
+        }
+        order::same_bytes(&key[..n], self.path)
     }
 }
 
-// The key of the line that stands from one place up to another and whose first field has `path` bytes. It stands in the line as it is: path, tab and name.
-pub fn key_with(baseline: &[u8], from: usize, to: usize, path: usize) -> Option<Span>
-    requires { (from ≤ to)
-        × (to ≤ length baseline.now)
-        × (path ≡ bytes_before tab (part from to baseline.now))
-        × (path ≤ length (part from to baseline.now)) }
-    ensures { KeyInside baseline.now result
-        × (key_in baseline.now result ≡ key_of_entry (entry_of (part from to baseline.now)))
-        × KeyFrom result from to path }
+// The key of a line whose first field has `path` bytes. It stands in the line as it is: path, tab and name.
+pub fn key_with(line: &[u8], path: usize) -> Option<&[u8]>
+    requires { (path ≡ bytes_before tab line.now) × (path ≤ length line.now) }
+    ensures { (key_text result ≡ key_of_entry (entry_of line.now)) × KeyFrom (key_text result) line.now path }
 {
-    let entry = entry_with(&baseline[from..to], path)?;
-    Some(Span {
-        from,
-        to: from + entry.name_end,
-    })
+    let entry = entry_with(line, path)?;
+    Some(&line[..entry.name_end])
 }
 
-// The key of the line that stands from one place up to another.
-pub fn key_at(baseline: &[u8], from: usize, to: usize) -> Option<Span>
-    requires { (from ≤ to) × (to ≤ length baseline.now) }
-    ensures { KeyInside baseline.now result × (key_in baseline.now result ≡ key_of_entry (entry_of (part from to baseline.now))) }
+// The key of a line.
+pub fn key(line: &[u8]) -> Option<&[u8]>
+    ensures { key_text result ≡ key_of_entry (entry_of line.now) }
 {
-    let path = field_end(&baseline[from..to], 0);
-    key_with(baseline, from, to, path)
+    key_with(line, field_end(line, 0))
 }
 
 // The measures that an entry accepts.
@@ -314,6 +359,24 @@ pub fn key_at(baseline: &[u8], from: usize, to: usize) -> Option<Span>
 pub struct Recorded {
     pub cyclomatic: u32,
     pub lines: u64,
+}
+
+impl From<Listed> for Recorded {
+    ghost from_gives = { λ l r. (r.cyclomatic ≡ l.cyclomatic) × (r.lines ≡ l.lines) };
+
+    fn from(l: Listed) -> Recorded {
+        Recorded {
+            cyclomatic: l.cyclomatic,
+            lines: l.lines,
+        }
+    }
+}
+
+// A baseline of at most 32 MB: what check accepts. So a place in it fits into 32 bits, and the sizes of its texts into a usize.
+#[derive(Clone, Copy)]
+pub struct Baseline<'a> {
+    pub lines: &'a [u8],
+    pub ghost short: { length lines.now ≤ 33554432 },
 }
 
 // A baseline that is not UTF-8 has no entry.

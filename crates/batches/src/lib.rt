@@ -2,22 +2,21 @@
 // byte order and each once; so many keys are taken in one pass. Keys stay where they are, in the lines.
 #![tactic(auto)]
 
-ghost use Rattle.std.specs.Prelude.{◌≡◌, true, ◌||◌, [], map, ◌≤◌, ltb, length, get_or, take};
-ghost use Rattle.text_rules.specs.Bytes.{before, kept};
+ghost use Rattle.std.specs.Prelude.{◌≡◌, true, false, map, ◌+◌, ◌≤◌, length, take};
+ghost use Rattle.text_rules.specs.Bytes.{kept};
 ghost use Rattle.text_rules.specs.Search.{part};
 ghost use Rattle.text_rules.specs.Utf8.{is_utf8};
 ghost use Rattle.gate_rules.specs.Functions.{key as fun_key};
 ghost use Rattle.gate_rules.specs.Gate.{gate};
 ghost use Rattle.gate_rules.specs.Scan.{functions_of};
-ghost use Rattle.baseline.specs.Ordered.{one_key};
-ghost use Rattle.baseline.specs.Reads.{KeyInside, key_in};
+ghost use Rattle.baseline.specs.Reads.{key_text};
 ghost use Rattle.listing.specs.Writes.{Room, Writes};
 ghost use Rattle.listed_keys.specs.KeyLines.{Sizes, key_lines};
 ghost use Rattle.in_order.specs.StaleKeys.{behind, stale_in};
-ghost use Rattle.batches.specs.Gathered.{gathered, one_more};
-ghost use Rattle.sorted_keys.specs.Held.{Held, Holds, keys_of};
+ghost use Rattle.batches.specs.Gathered.{one_more};
+ghost use Rattle.sorted_keys.specs.Insert.{insert};
 
-use baseline::Span;
+use baseline::{Baseline, Lines};
 use functions::Functions;
 use listing::{Size, Writer};
 use sorted_keys::{Keys, MOST};
@@ -25,79 +24,52 @@ use sorted_keys::{Keys, MOST};
 // ---- the keys of the lines
 
 // Behind the last key that was taken. At first none was.
-fn is_behind(lines: &[u8], last: Option<Span>, bytes: &[u8]) -> bool
-    requires { KeyInside lines.now last }
-    ensures { result ≡ behind (key_in lines.now last) bytes.now }
+fn is_behind(last: Option<&[u8]>, bytes: &[u8]) -> bool
+    ensures { result ≡ behind (key_text last.entry) bytes.now }
 {
-    last.is_none_or(|l| order::before(l.of(lines), bytes))
+    last.is_none_or(|l| order::before(l, bytes))
 }
 
-// Whether a key has a place among the first 8,192: not all places are taken, or it stands before the last of them.
-fn has_place(lines: &[u8], keys: &Keys, bytes: &[u8]) -> bool
-    requires { Held lines.now keys.now }
-    ensures { result ≡ (ltb keys.now.count 8192 || before bytes.now (get_or (keys_of lines.now keys.now) 8191 [])) }
+// Whether a key has a place among the first 8,192: not all places are taken, or it stands before the last of them. Another one changes none of these.
+fn has_place(keys: &Keys<'_>, bytes: &[u8]) -> bool
+    ensures { result ≡ false → take 8192 (insert bytes.now keys.now.keys) ≡ keys.now.keys }
 {
-    keys.count < MOST || order::before(bytes, keys.key(lines, MOST - 1))
+    if keys.len() < MOST {
+        return true;
+    }
+    order::before(bytes, keys.key(MOST - 1))
 }
 
-// A key more, where it may be taken. Whether a function has it is asked last, as that costs most.
-fn add_key(fs: Functions, lines: &[u8], last: Option<Span>, keys: &mut Keys, key: Span)
-    requires { KeyInside lines.now last
-        × Held lines.now keys.old
-        × (key.from ≤ key.to)
-        × (key.to ≤ length lines.now)
-        × (length lines.now ≤ 33554432) }
-    ensures { Holds lines.now keys.new
-        (take 8192 (one_more (map fun_key (functions_of gate fs.entry.tree.now)) (key_in lines.now last) (part key.from key.to lines.now)
-        (keys_of lines.now keys.old))) }
+// A key more, which begins at a place of the lines, where it may be taken. Whether a function has it is asked last, as that costs most.
+fn add_key(fs: Functions, last: Option<&[u8]>, keys: &mut Keys<'_>, from: usize, key: &[u8])
+    requires stands { part from (from + length key.now) keys.old.lines ≡ key.now }
+    requires inside { from + length key.now ≤ length keys.old.lines }
+    ensures lines { keys.new.lines ≡ keys.old.lines }
+    ensures keys { take 8192 keys.new.keys
+        ≡ take 8192 (one_more (map fun_key (functions_of gate fs.entry.tree.now)) (key_text last.entry) key.now keys.old.keys) }
 {
-    let bytes = key.of(lines);
-    if !is_behind(lines, last, bytes) {
+    if !is_behind(last, key) {
         return;
     }
-    if !has_place(lines, keys, bytes) {
+    if !has_place(keys, key) {
         return;
     }
-    if live::is_live(fs, bytes) {
+    if live::is_live(fs, key) {
         return;
     }
-    keys.insert(lines, key);
-}
-
-// The key of a line more, where the line has one.
-fn add_line(fs: Functions, lines: &[u8], last: Option<Span>, keys: &mut Keys, here: Option<Span>)
-    requires { KeyInside lines.now last
-        × Held lines.now keys.old
-        × KeyInside lines.now here
-        × (length lines.now ≤ 33554432) }
-    ensures { Holds lines.now keys.new
-        (take 8192 (gathered (map fun_key (functions_of gate fs.entry.tree.now)) (key_in lines.now last)
-        (keys_of lines.now keys.old) (one_key (key_in lines.now here)))) }
-{
-    if let Some(key) = here {
-        add_key(fs, lines, last, keys, key);
-    }
+    keys.insert(from, key);
 }
 
 // The first stale keys behind the last one taken, at most 8,192, in one pass over the lines.
-fn gather(fs: Functions, lines: &[u8], last: Option<Span>) -> Keys
-    requires { KeyInside lines.now last × (length lines.now ≤ 33554432) }
-    ensures { Holds lines.now result (take 8192 (kept (behind (key_in lines.now last)) (stale_in fs.entry.tree.now lines.now))) }
+fn gather<'a>(fs: Functions, baseline: Baseline<'a>, last: Option<&[u8]>) -> Keys<'a>
+    ensures { take 8192 result.keys ≡ take 8192 (kept (behind (key_text last.entry)) (stale_in fs.entry.tree.now baseline.entry.lines.now)) }
 {
-    let mut keys = Keys::none();
-    let mut from = 0;
-    // Kept: the place of each line is wanted, which the library's split does not tell.
-    while from < lines.len() {
-        let end = baseline::line_end(lines, from);
-        let to = baseline::trimmed_end(lines, from, end);
-        add_line(
-            fs,
-            lines,
-            last,
-            &mut keys,
-            baseline::key_at(lines, from, to),
-        );
-        from = end + 1;
+    let mut keys = Keys::none(baseline);
+    for line in Lines::of(baseline.lines) {
+        let path = baseline::field_end(line.bytes, 0);
+        if let Some(key) = baseline::key_with(line.bytes, path) {
+            add_key(fs, last, &mut keys, line.from, key);
+        }
     }
     keys
 }
@@ -105,61 +77,60 @@ fn gather(fs: Functions, lines: &[u8], last: Option<Span>) -> Keys
 // ---- one batch after another
 
 // The bytes of the lines of the keys.
-fn batch_bytes(lines: &[u8], keys: &Keys) -> usize
-    requires { Held lines.now keys.now × (length lines.now ≤ 33554432) }
-    ensures { result ≡ length (key_lines (keys_of lines.now keys.now)) }
+fn batch_bytes(keys: &Keys<'_>) -> usize
+    ensures { result ≡ length (key_lines keys.now.keys) }
 {
     let mut bytes = 0;
-    for i in 0..keys.count {
-        bytes += 3 + keys.key(lines, i).len();
+    for i in 0..keys.len() {
+        bytes += 3 + keys.key(i).len();
     }
     bytes
 }
 
 // Their lines.
-fn write_batch(lines: &[u8], keys: &Keys, w: &mut Writer<'_>)
-    requires { Held lines.now keys.now × Room (key_lines (keys_of lines.now keys.now)) w.old }
-    ensures { Writes (key_lines (keys_of lines.now keys.now)) w.old w.new }
+fn write_batch(keys: &Keys<'_>, w: &mut Writer<'_>)
+    requires { Room (key_lines keys.now.keys) w.old }
+    ensures { Writes (key_lines keys.now.keys) w.old w.new }
 {
-    for i in 0..keys.count {
-        listed_keys::write_key(w, keys.key(lines, i));
+    for i in 0..keys.len() {
+        listed_keys::write_key(w, keys.key(i));
     }
 }
 
 // How many stale keys there are, and the bytes of their lines. A batch that leaves a place free is the last one.
-pub fn measure(fs: Functions, lines: &[u8]) -> Size
-    requires { (is_utf8 lines.now ≡ true) × (length lines.now ≤ 33554432) }
-    ensures { Sizes result.count result.bytes (stale_in fs.entry.tree.now lines.now) }
+pub fn measure(fs: Functions, baseline: Baseline) -> Size
+    requires { is_utf8 baseline.lines.now ≡ true }
+    ensures { Sizes result.count result.bytes (stale_in fs.entry.tree.now baseline.entry.lines.now) }
 {
     let mut last = None;
-    let mut size = Size { count: 0, bytes: 0 };
+    let mut size = Size::default();
     // Kept: only the last batch tells how many there are.
     loop {
-        let keys = gather(fs, lines, last);
-        size = size.plus(Size {
-            count: keys.count,
-            bytes: batch_bytes(lines, &keys),
-        });
-        if keys.count < MOST {
+        let keys = gather(fs, baseline, last);
+        let count = keys.len();
+        let bytes = batch_bytes(&keys);
+        size = size.plus(Size { count, bytes });
+        if count < MOST {
             return size;
         }
-        last = Some(keys.span(MOST - 1));
+        last = Some(keys.key(MOST - 1));
     }
 }
 
 // The lines of the stale keys.
-pub fn write_all(fs: Functions, lines: &[u8], w: &mut Writer<'_>)
-    requires { Room (key_lines (stale_in fs.tree.now lines.now)) w.old × (length lines.now ≤ 33554432) }
-    ensures { Writes (key_lines (stale_in fs.entry.tree.now lines.now)) w.old w.new }
+pub fn write_all(fs: Functions, baseline: Baseline, w: &mut Writer<'_>)
+    requires { Room (key_lines (stale_in fs.tree.now baseline.lines.now)) w.old }
+    ensures { Writes (key_lines (stale_in fs.entry.tree.now baseline.entry.lines.now)) w.old w.new }
 {
     let mut last = None;
     // Kept: only the last batch tells how many there are.
     loop {
-        let keys = gather(fs, lines, last);
-        write_batch(lines, &keys, w);
-        if keys.count < MOST {
+        let keys = gather(fs, baseline, last);
+        let count = keys.len();
+        write_batch(&keys, w);
+        if count < MOST {
             return;
         }
-        last = Some(keys.span(MOST - 1));
+        last = Some(keys.key(MOST - 1));
     }
 }

@@ -16,7 +16,7 @@ const SPACE: u8 = b' ';
 // The most bytes that a text may have.
 const MAX_TEXT: usize = 16777216;
 
-// The bytes that are passed by steps before blocks are asked again. Fewer make a text that is dense in tokens slower, more an ordinary one.
+// The bytes that are passed by steps before blocks are tested again. Fewer make a text that is dense in tokens slower, more an ordinary one.
 const STRETCH: usize = 32;
 
 // A byte of a token as it stands in the blanked text.
@@ -27,7 +27,8 @@ fn blank_byte(b: u8) -> u8
 }
 
 // A place in a text up to which the output is written.
-// Kept: a step takes the cursor and hands back the next one, which a cursor that holds the output could not, so text and output stand beside it.
+// Kept: not the cursor of tokens, since a crate gives methods to its own types alone: that one measures, this one writes.
+// Kept: text and output stand beside it. A step hands back the next cursor, and one that holds the output is not copied.
 #[derive(Clone, Copy)]
 struct Cursor {
     at: usize,
@@ -63,8 +64,8 @@ impl Cursor {
     }
 }
 
-// Past the blocks from a place on that have none of the bytes by which a token is told. All four are asked, so that the compiler asks a block at
-// once.
+// Past the blocks from a place on that have none of the bytes by which a token is told. A byte is compared with all four, so that the compiler tests
+// a block at once.
 fn bare_end(s: &[u8], from: usize) -> usize
     requires { from ≤ length s.now }
     ensures { (from ≤ result) × (result ≤ length s.now) × AllBare s.now from result }

@@ -1,37 +1,24 @@
--- The next bytes of a text from a place on, as an iterator gives them, and a part of a text, as it is lent.
-use Rattle.std.proofs.Common.{◌≡◌, ◌≢◌, ℕ, ◌+◌, ◌-◌, ◌≤◌, ◌<◌, List, ◌++◌, length, get_or, take, drop, ap, subst, sym, ◌∙◌, inl, inr, arith, length-append, length-drop}
-use Rattle.std.proofs.Math.Seq.{drop-append_seam}
-use Rattle.std.proofs.lemmas.List.{drop-drop, get_or-drop, get_or-take, get_or_append_left}
+-- Bytes that passed up to a place and some more, and a part of a text, as it is lent.
+use Rattle.std.proofs.Common.{◌≡◌, ◌≢◌, ℕ, ◌+◌, ◌-◌, ◌≤◌, ◌<◌, List, length, get_or, take, drop, ap, subst, ◌∙◌, inl, inr, arith}
+use Rattle.std.proofs.lemmas.List.{get_or-drop, get_or-take}
 use borrow.Author.Tests.{eqb-true, eqb-false, ltb-true, ltb-false}
 use Rattle.std.specs.Prelude.{eqb, ltb}
 use Rattle.text_rules.specs.BytesLaws.{whether}
 use Rattle.text_rules.specs.Search.{bytes_before}
 use mir.Val.{bool_byte}
-use Rattle.blocks.specs.Blocks.{Lacks, passed, count_from, count-hit, count_miss}
+use Rattle.blocks.specs.Blocks.{Every, Lacks, passed, count_from, count-hit, count_miss}
 
--- the next n bytes, in front of what is left
-module _ (s x rest : List ℕ) (at n : ℕ) (e : drop at s ≡ x ++ rest) (l : length x ≡ n) where
-  pub rest_is : rest ≡ drop (at + n) s
-  rest_is = subst (λ k. rest ≡ drop (at + k) s) l (sym (drop-append_seam x rest) ∙ ap (drop (length x)) (sym e) ∙ drop-drop (length x) at s)
-
-  pub fits : at ≤ length s → at + n ≤ length s
-  fits h = omega (arith, ap length e, length-drop at s, length-append x rest)
-
-  pub byte_is : (k : ℕ) → k < n → get_or x k 0 ≡ get_or s (at + k) 0
-  byte_is k h = let m : k < length x = omega arith in sym (get_or_append_left x rest 0 k m) ∙ ap (λ l. get_or l k 0) (sym e) ∙ get_or-drop at s k 0
-
-  -- each byte before a place passed, and each of the next ones
-  pub every_next : (P : ℕ → Type 0) (from : ℕ) → ((k : ℕ) → from ≤ k → k < at → P (get_or s k 0)) → ((k : ℕ) → k < length x → P (get_or x k 0))
-      → (k : ℕ) → from ≤ k → k < at + n → P (get_or s k 0)
-  every_next P from before next k low high =
-      elim (whether (ltb k at)) [
-        | inl t ↦ before k low (ltb-true k at t)
-        | inr t ↦
-            let o : at ≤ k = ltb-false k at t in
-            let j : at + (k - at) ≡ k = omega arith in
-            let m : k - at < n = omega arith in
-            subst (λ i. P (get_or s i 0)) j (subst P (byte_is (k - at) m) (next (k - at) (omega arith)))
-      ]
+-- each byte before a place passed, and each of the n next ones
+pub passed_further : (P : ℕ → Type 0) (s : List ℕ) (from at n : ℕ) → ((k : ℕ) → from ≤ k → k < at → P (get_or s k 0)) → Every P s at n
+    → (k : ℕ) → from ≤ k → k < at + n → P (get_or s k 0)
+passed_further P s from at n before next k low high =
+    elim (whether (ltb k at)) [
+      | inl t ↦ before k low (ltb-true k at t)
+      | inr t ↦
+          let o : at ≤ k = ltb-false k at t in
+          let j : at + (k - at) ≡ k = omega arith in
+          subst (λ i. P (get_or s i 0)) j (next (k - at) (omega arith))
+    ]
 
 -- the byte of a part
 pub byte_of_part : (s : List ℕ) (a n k : ℕ) → k < n → get_or (take n (drop a s)) k 0 ≡ get_or s (a + k) 0

@@ -1,5 +1,5 @@
-// Sixteen bytes of a text, asked at once: the compiler makes a few instructions of each loop here, so a text is passed over by blocks as long as
-// nothing begins in them. A byte of the block that its caller read before keeps the compiler from that, so callers ask blocks in a loop of their own.
+// Sixteen bytes of a text, tested at once: the compiler makes a few instructions of each loop here, so a text is passed over by blocks as long as
+// nothing begins in them. A byte of the block that its caller read before keeps the compiler from that, so callers test blocks in a loop of their own.
 #![tactic(auto)]
 
 ghost use Rattle.std.specs.Prelude.{◌≡◌, ℕ, true, ◌+◌, ◌≤◌, ◌<◌, length, get_or, drop};
@@ -9,7 +9,7 @@ ghost use Rattle.blocks.specs.Blocks.{Every, Lacks, count_from};
 // The bytes of a block.
 pub const WIDTH: usize = 16;
 
-// Whether each byte of a block passes a test. Bytes behind one that fails are asked too, so that the compiler asks all at once.
+// Whether each byte of a block passes a test. Bytes behind one that fails are tested too, so that the compiler tests all at once.
 fn every<F: Fn(u8) -> bool>(block: &[u8], test: F) -> bool
     requires { F.IsAlwaysCallable test }
     ensures { result ≡ true → (k : ℕ) → k < length block.now → F.post test (get_or block.now k 0) true }
@@ -58,14 +58,12 @@ pub fn past_while<F: Fn(u8) -> bool>(s: &[u8], from: usize, test: F) -> usize
     ensures high { result ≤ length s.now }
     ensures passed { (k : ℕ) → from ≤ k → k < result → F.post test (get_or s.now k 0) true }
 {
-    let mut at = from;
-    for block in s[from..].chunks_exact(WIDTH) {
-        if !every(block, &test) {
+    for at in (from..s.len()).step_by(WIDTH) {
+        if s.len() - at < WIDTH || !passes(s, at, &test) {
             return at;
         }
-        at += WIDTH;
     }
-    at
+    s.len()
 }
 
 // Past the blocks of ASCII from a place on. DEL, 127, counts as beyond: the compiler makes more instructions of a test of the highest bit.

@@ -1,11 +1,12 @@
 -- The walk passes a chunk whole, where no search begins in it and no pending one ends. The levels between which searches are pending tell the latter.
-use Rattle.std.specs.Prelude.{ℕ, ◌+◌, ◌-◌, ◌≤◌, ◌<◌, ◌≡◌, ◌⊎◌, ◌≢◌, List, drop, get_or}
+use Rattle.std.specs.Prelude.{ℕ, ◌+◌, ◌-◌, ◌≤◌, ◌<◌, ◌≡◌, ◌⊎◌, ◌≢◌, List, Option, Some, None, drop, get_or}
 use Rattle.std.proofs.Common.{ap, subst, ◌∙◌, inl, inr, arith}
 use Rattle.text_rules.specs.Classes.{square_close, square_open}
 use Rattle.source_rules.specs.Finding.{body_at}
 use Rattle.blocks.specs.Blocks.{count_most, count-sum, count_from}
-use Rattle.chunks.specs.Passing.{Misses, Summary}
+use Rattle.chunks.specs.Passing.{MissesEnds, Summary}
 use Rattle.chunks.specs.declared.Chunk.{Chunk}
+use Rattle.chunks.specs.declared.Ends.{Ends}
 use Rattle.angles.specs.Angles.{less, more}
 use Rattle.angles.specs.Groups.{Turns, above_in}
 use Rattle.angles.specs.declared.Groups.{Groups}
@@ -25,11 +26,15 @@ pub record Narrows (x y : Searches) : Type 0 where
   pub low : (k : ℕ) → get_or x.heads k 0 ≢ 0 → x.low ≤ k → y.low ≤ k
   pub high : (k : ℕ) → get_or x.heads k 0 ≢ 0 → k ≤ x.high → k ≤ y.high
 
--- a chunk misses all searches that have begun, or all between two levels
+-- a chunk misses all searches that have begun, or all between two levels; one in which none can end misses them all
+abbrev pub MissedEnds : Option Ends → Walk → Type 0
+MissedEnds None w = Unit {0}
+MissedEnds (Some e) w =
+    ((i : ℕ) → i < w.next → e.ended < above_in w.groups i)
+    ⊎ ((2048 + w.searches.high + w.closed < e.low + w.opened) ⊎ (e.high + w.opened < 2048 + w.searches.low + w.closed))
+
 abbrev pub Missed : Chunk → Walk → Type 0
-Missed c w =
-    ((i : ℕ) → i < w.next → c.ended < above_in w.groups i)
-    ⊎ ((2048 + w.searches.high + w.closed < c.low + w.opened) ⊎ (c.high + w.opened < 2048 + w.searches.low + w.closed))
+Missed c = MissedEnds c.ends
 
 -- a depth behind a chunk
 abbrev pub depth_behind : Chunk → ℕ → ℕ
@@ -94,22 +99,19 @@ module _ (s starts : List ℕ) (w : Walk) (k : Kept s starts w) where
           tells = rw n.told k.tells;
         }
 
-  module _ (c : Chunk) (y : Summary s w.at c) (d : Missed c w) where
-    misses_each : (i : ℕ) → Pending w.searches.told i → Misses c (above_in w.groups i) (closed_before s starts i + w.opened) (opened_before s starts i + w.closed)
-    misses_each i p =
-        let l = k.whole i p in
-        let b = k.between i p in
-        elim d [
-          | inl a ↦ inl (a i (k.before i p))
-          | inr (inl a) ↦ inr (inl (omega (arith, l, b.1, a)))
-          | inr (inr a) ↦ inr (inr (omega (arith, l, b.0, a)))
-        ]
+  misses_each : (o : Option Ends) → MissedEnds o w → (i : ℕ) → Pending w.searches.told i
+      → MissesEnds o (above_in w.groups i) (closed_before s starts i + w.opened) (opened_before s starts i + w.closed)
+  misses_each None d i p = tt
+  misses_each (Some e) (inl a) i p = inl (a i (k.before i p))
+  misses_each (Some e) (inr (inl a)) i p = inr (inl (omega (arith, k.whole i p, (k.between i p).1, a)))
+  misses_each (Some e) (inr (inr a)) i p = inr (inr (omega (arith, k.whole i p, (k.between i p).0, a)))
 
+  module _ (c : Chunk) (y : Summary s w.at c) (d : Missed c w) where
     module _ (g : Groups) (t : Turns (depth_behind c) w.next (w.at + 4096) w.groups g) where
       goes_on : (i : ℕ) → Pending w.searches.told i → Tracks s starts (crossed c w g) i
       goes_on i p =
           k.tracked i p
-          ∙ y.passing.passes _ _ _ (misses_each i p)
+          ∙ y.passing.passes _ _ _ (misses_each c.ends d i p)
           ∙ same-counts _ _ _ _ _ _ (t.depth i (k.before i p)) (omega arith) (omega arith) where
             same-counts : (a b d e f g : ℕ) → a ≡ b → d ≡ e → f ≡ g → body_at a d f (w.at + 4096) (drop (w.at + 4096) s) ≡ body_at b e g (w.at + 4096) (drop (w.at + 4096) s)
             same-counts a b d e f g ab de fg = rw (ab, de, fg)

@@ -4,7 +4,7 @@ use Rattle.std.proofs.Common.{subst, sym, inl, inr, arith, ne_eqb}
 use Rattle.text_rules.specs.Classes.{angle_close, angle_open, brace_open, semicolon, square_close, square_open}
 use Rattle.text_rules.specs.Search.{count_after}
 use Rattle.angles.specs.Angles.{same_or_not}
-use Rattle.angles.proofs.Laws.{passes_other}
+use Rattle.angles.specs.Groups.{passes_other}
 use Rattle.bodies.specs.Walking.{Ends, Kept, ended-other, kept-further, level_of}
 use Rattle.bodies.specs.declared.Walk.{Walk}
 

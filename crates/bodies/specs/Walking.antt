@@ -1,6 +1,6 @@
--- A walk over a text with the searches for a body that begin on the way, at given places. The angle depth of each is told by the brackets that are open
--- and were opened behind its beginning, and its square depth by the level at which it began and the level of the walk. So at a `{` or `;` those end whose level is that
--- of the walk, and that began behind all open angle brackets.
+-- A walk over a text with the searches for a body that begin on the way, at given places. The angle depth of each is told by the brackets that are
+-- open and were opened behind its beginning, and its square depth by the level at which it began and the level of the walk. So at a `{` or `;` those
+-- end whose level is that of the walk, and that began behind all open angle brackets.
 use Rattle.std.specs.Prelude.{ℕ, ◌+◌, ◌-◌, ◌≤◌, ◌<◌, min, max, ◌≡◌, refl, ◌⊎◌, ◌≢◌, true, List, eqb, length, drop, get_or, set}
 use Rattle.std.proofs.Common.{ap, subst, sym, ◌∙◌, inl, inr, arith}
 use Rattle.std.proofs.Math.Option.{Option, none, some}
@@ -15,7 +15,7 @@ use Rattle.flat.specs.BodyLaws.{passed}
 use Rattle.flat.specs.LevelLaws.{body_same}
 use Rattle.chunks.specs.Sums.{count-more}
 use Rattle.angles.specs.Angles.{above_before, above-behind, above-next, same_or_not, stack-next}
-use Rattle.angles.specs.Groups.{Stands, Turns, above_in, boundary_in, counts_of, sizes_of}
+use Rattle.angles.specs.Groups.{Stands, Turns, above_in, boundary_in, groups_of}
 use Rattle.angles.specs.declared.Groups.{Groups}
 use Rattle.bodies.specs.Chain.{Chain, Chained, FitIn, Pending, added, added-fits, set-elsewhere, set_there}
 use Rattle.bodies.specs.Settling.{Settled}
@@ -227,7 +227,7 @@ module _ (s starts : List ℕ) (w : Walk) (k : Kept s starts w) where
 
   module _ (within : w.next < 2048) (here : get_or starts w.next 0 ≡ w.at) where
     stands-next : Stands w.groups (w.next + 1) w.at
-    stands-next = stack-next (counts_of w.groups) (sizes_of w.groups) w.groups.height w.next w.at within k.stack
+    stands-next = stack-next w.next w.at (groups_of w.groups) within k.stack
 
     kept_same : Kept s starts (begun w w.searches)
     kept_same =
@@ -261,7 +261,7 @@ module _ (s starts : List ℕ) (w : Walk) (k : Kept s starts w) where
         ap (λ p. body_at 0 0 0 p (drop p s)) here
         ∙ body_same (drop w.at s) 0 0 0 (closed_before s starts i + w.opened) (opened_before s starts i + w.closed) w.at (omega (arith, opened-here, closed-here))
         ∙ ap (λ n. body_at n (closed_before s starts i + w.opened) (opened_before s starts i + w.closed) w.at (drop w.at s))
-        (sym (above-next (counts_of w.groups) (sizes_of w.groups) w.groups.height w.next w.at k.stack))
+        (sym (above-next w.next w.at (groups_of w.groups) k.stack))
 
     module _ (level : ℕ) (l : AtLevel w level) where
       abbrev numbers : List Sought
@@ -343,12 +343,12 @@ module _ (s starts : List ℕ) (w : Walk) (k : Kept s starts w) (h : w.at < leng
   -- a search is at depth 0 where it ends
   module _ (i : ℕ) (p : Pending w.searches.told i) where
     ends-flat : Ends w (level_of s starts) i → flat (angle_of i) (closed_before s starts i + w.opened) (opened_before s starts i + w.closed) ≡ true
-    ends-flat e = flat-is _ _ _ (above-behind (counts_of w.groups) (sizes_of w.groups) w.groups.height w.next w.at i k.stack e.0) (let l = k.whole i p in omega (arith, e.1, l))
+    ends-flat e = flat-is _ _ _ (above-behind (groups_of w.groups) i e.0) (let l = k.whole i p in omega (arith, e.1, l))
 
     flat-ends : flat (angle_of i) (closed_before s starts i + w.opened) (opened_before s starts i + w.closed) ≡ true → Ends w (level_of s starts) i
     flat-ends f =
         let t = flat-tells _ _ _ f in
-        (above_before (counts_of w.groups) (sizes_of w.groups) w.groups.height w.next w.at i k.stack t.0, let l = k.whole i p in omega (arith, t.1, l))
+        (above_before w.next w.at (groups_of w.groups) i k.stack t.0, let l = k.whole i p in omega (arith, t.1, l))
 
   module _ (x : Searches) (f : Fewer w.searches x)
       (e : EndedIn (level_of s starts) (Ends w (level_of s starts)) byte w.at w.searches x)

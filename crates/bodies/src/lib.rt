@@ -4,7 +4,6 @@
 
 ghost use Rattle.std.specs.Prelude.{◌≡◌, ◌≢◌, ℕ, ◌+◌, ◌≤◌, ◌<◌, length, get_or, IsFalse, IsTrue, MatchOption};
 ghost use Rattle.chunks.specs.Passing.{Summary};
-ghost use Rattle.chunks.specs.Table.{Summed};
 ghost use Rattle.angles.specs.Groups.{Stands, Turns};
 ghost use Rattle.bodies.specs.Bodies.{Finds, Rising};
 ghost use Rattle.bodies.specs.Chain.{Chained, FitIn};
@@ -14,7 +13,7 @@ ghost use Rattle.bodies.specs.Settling.{Behind, Settles};
 ghost use Rattle.bodies.specs.Walking.{Adds, AtLevel, Begins, EndedIn, Ends, Fewer, Fresh, Kept, Rest, noted, with_searches};
 
 use angles::Groups;
-use chunks::Chunk;
+use chunks::{Chunk, TextSums};
 
 // The most searches.
 const MOST: usize = 2048;
@@ -35,7 +34,8 @@ pub enum Sought {
 // follows.
 // Kept: numbers, not options. An index stands as one more than itself and 0 ends a chain, so one comparison tells that a chain goes on and that its
 // first search is not before a boundary.
-// Kept: arrays of fixed length, since a call takes no memory from the heap.
+// Kept: `told` and `links` are two arrays, since `told` alone is handed out. Both have an entry for each place at which a search may begin, unknown
+// and 0 before it begins, so no length stands beside them.
 #[derive(Drop)]
 struct Searches {
     told: [Sought; 2048],
@@ -129,29 +129,31 @@ impl Searches {
 // The first chain that holds a search, and the last one.
 // Kept: the library goes through a list from its two ends by two methods, so these are two functions.
 fn first_some(heads: &[u16]) -> Option<usize>
-    ensures { MatchOption result ((k : ℕ) → get_or heads.now k 0 ≡ 0) (λ first. (first < length heads.now) × ((k : ℕ) → k < first → get_or heads.now k 0 ≡ 0)) }
+    ensures { MatchOption result ((k : ℕ) → get_or heads.now k 0 ≡ 0)
+        (λ first. (first < length heads.now) × ((k : ℕ) → k < first → get_or heads.now k 0 ≡ 0)) }
 {
     heads.iter().position(|head| *head != 0)
 }
 
 fn last_some(heads: &[u16]) -> Option<usize>
-    ensures { MatchOption result ((k : ℕ) → get_or heads.now k 0 ≡ 0) (λ last. (last < length heads.now) × ((k : ℕ) → last < k → get_or heads.now k 0 ≡ 0)) }
+    ensures { MatchOption result ((k : ℕ) → get_or heads.now k 0 ≡ 0)
+        (λ last. (last < length heads.now) × ((k : ℕ) → last < k → get_or heads.now k 0 ≡ 0)) }
 {
     heads.iter().rposition(|head| *head != 0)
 }
 
-// A text, the sums of its chunks, and the places where searches begin, in rising order.
+// A text with the sums of its chunks, and the places where searches begin, in rising order.
 #[derive(Clone, Copy)]
 struct Places<'a> {
-    text: &'a [u8],
-    sums: &'a [u16; 36865],
+    text: TextSums<'a>,
     starts: &'a [u32],
     ghost few: { length starts.now ≤ 2048 },
-    ghost summed: { Summed text.now sums.now },
 }
 
 // How far the walk over a text has come: how many searches have begun, the square brackets that were opened and closed since the walk began, and the
 // groups of angle brackets that are open.
+// Kept: the places are lent to the walk's methods, not a field. Of a field each method that changes the walk would have to promise that it stays as
+// it is, which a `&Places` says by its type.
 #[derive(Drop)]
 struct Walk {
     at: usize,
@@ -191,7 +193,8 @@ impl Walk {
         requires fit { FitIn self.old.searches }
         ensures same { self.new ≡ with_searches self.old self.new.searches }
         ensures fewer { Fewer self.old.searches self.new.searches }
-        ensures ended { (at : ℕ → ℕ) → Chained at self.old.searches → EndedIn at (Ends self.old at) b self.old.at self.old.searches self.new.searches }
+        ensures ended { (at : ℕ → ℕ) → Chained at self.old.searches
+            → EndedIn at (Ends self.old at) b self.old.at self.old.searches self.new.searches }
     {
         match b {
             b'{' => self.end_level(Sought::Brace(self.at as u32)),
@@ -226,13 +229,13 @@ impl Walk {
 
     // The walk past a byte: the search that begins before it is noted, those that end at it end, and its brackets are counted.
     fn step(&mut self, p: &Places)
-        requires inside { self.old.at < length p.now.text.now }
-        requires kept { Kept p.now.text.now p.now.starts.now self.old }
+        requires inside { self.old.at < length p.now.text.text.now }
+        requires kept { Kept p.now.text.text.now p.now.starts.now self.old }
         ensures next { self.new.at ≡ self.old.at + 1 }
-        ensures kept { Kept p.now.text.now p.now.starts.now self.new }
+        ensures kept { Kept p.now.text.text.now p.now.starts.now self.new }
     {
         self.begin(p.starts);
-        let b = p.text[self.at];
+        let b = p.text.text[self.at];
         self.end_at(b);
         self.groups.pass(b, self.next, self.at);
         self.opened += u32::from(b == b'[');
@@ -242,25 +245,25 @@ impl Walk {
 
     // The walk past the bytes before `end` that are no marks and at which no search begins. Most bytes are.
     fn skip(&mut self, p: &Places, end: usize)
-        requires inside { self.old.at ≤ length p.now.text.now }
-        requires end { end ≤ length p.now.text.now }
-        ensures { Skips p.now.text.now self.old self.new }
+        requires inside { self.old.at ≤ length p.now.text.text.now }
+        requires end { end ≤ length p.now.text.text.now }
+        ensures { Skips p.now.text.text.now self.old self.new }
     {
         let to = p
             .starts
             .get(self.next)
             .map_or(end, |start| end.min(*start as usize));
-        self.at = quiet_end(p.text, self.at, to);
+        self.at = quiet_end(p.text.text, self.at, to);
     }
 
     // The walk past a byte and the quiet ones behind it. It stops where a chunk begins.
     fn read_on(&mut self, p: &Places)
-        requires inside { self.old.at < length p.now.text.now }
-        requires kept { Kept p.now.text.now p.now.starts.now self.old }
+        requires inside { self.old.at < length p.now.text.text.now }
+        requires kept { Kept p.now.text.text.now p.now.starts.now self.old }
         ensures further { self.old.at < self.new.at }
-        ensures kept { Kept p.now.text.now p.now.starts.now self.new }
+        ensures kept { Kept p.now.text.text.now p.now.starts.now self.new }
     {
-        let end = chunks::edge_after(self.at, p.text.len());
+        let end = chunks::edge_after(self.at, p.text.text.len());
         self.step(p);
         self.skip(p, end);
     }
@@ -275,16 +278,18 @@ impl Walk {
     // Whether no pending search ends in a chunk: each has more angle brackets open than the chunk closes before its last `{` or `;`, or all of these
     // stand above the levels of the searches, or all below.
     fn is_missed(&self, c: Chunk) -> bool
-        requires chunk { (c.low ≤ 65535) × (c.high ≤ 65535) }
         requires levels { (self.now.searches.low ≤ 4096) × (self.now.searches.high ≤ 4096) }
         requires stands { Stands self.now.groups self.now.next self.now.at }
         ensures { IsTrue result → Missed c self.now }
     {
+        let Some(e) = c.ends else {
+            return true;
+        };
         let opened = self.opened as usize;
         let closed = self.closed as usize;
-        c.ended < self.groups.least(self.next, self.at)
-            || 2048 + self.searches.high + closed < c.low + opened
-            || c.high + opened < 2048 + self.searches.low + closed
+        usize::from(e.ended) < self.groups.least(self.next, self.at)
+            || 2048 + self.searches.high + closed < usize::from(e.low) + opened
+            || usize::from(e.high) + opened < 2048 + self.searches.low + closed
     }
 
     // The walk behind a chunk. The angle brackets that it closes from before stand before those that it leaves open.
@@ -297,8 +302,8 @@ impl Walk {
         ensures crossed { self.new ≡ crossed c self.old self.new.groups }
         ensures turns { Turns (depth_behind c) self.old.next (self.old.at + 4096) self.old.groups self.new.groups }
     {
-        self.groups.close(c.downs);
-        self.groups.open(c.ups, self.next, self.at);
+        self.groups.close(c.downs as usize);
+        self.groups.open(c.ups as usize, self.next, self.at);
         self.opened += c.opened as u32;
         self.closed += c.closed as u32;
         self.at += chunks::SIZE;
@@ -306,10 +311,10 @@ impl Walk {
 
     // The walk from the beginning of a chunk on: behind the chunk if no search begins or ends in it.
     fn at_chunk(&mut self, p: &Places, c: Chunk)
-        requires summary { Summary p.now.text.now self.old.at c }
-        requires kept { Kept p.now.text.now p.now.starts.now self.old }
+        requires summary { Summary p.now.text.text.now self.old.at c }
+        requires kept { Kept p.now.text.text.now p.now.starts.now self.old }
         ensures further { self.old.at < self.new.at }
-        ensures kept { Kept p.now.text.now p.now.starts.now self.new }
+        ensures kept { Kept p.now.text.text.now p.now.starts.now self.new }
     {
         self.searches.narrow();
         if self.is_free(p, self.at + chunks::SIZE) && self.is_missed(c) {
@@ -321,12 +326,12 @@ impl Walk {
 
     // The walk further on. It comes to the beginning of each chunk once; elsewhere no sums are told.
     fn onward(&mut self, p: &Places)
-        requires inside { self.old.at < length p.now.text.now }
-        requires kept { Kept p.now.text.now p.now.starts.now self.old }
+        requires inside { self.old.at < length p.now.text.text.now }
+        requires kept { Kept p.now.text.text.now p.now.starts.now self.old }
         ensures further { self.old.at < self.new.at }
-        ensures kept { Kept p.now.text.now p.now.starts.now self.new }
+        ensures kept { Kept p.now.text.text.now p.now.starts.now self.new }
     {
-        match chunks::chunk_at(p.text, p.sums, self.at) {
+        match p.text.chunk_at(self.at) {
             Some(c) => self.at_chunk(p, c),
             None => self.read_on(p),
         }
@@ -339,11 +344,11 @@ impl Walk {
 
     // The walk to the end of the text, or until no search is pending behind the last place.
     fn walk(&mut self, p: &Places)
-        requires { Kept p.now.text.now p.now.starts.now self.old }
-        ensures { Kept p.now.text.now p.now.starts.now self.new }
+        requires { Kept p.now.text.text.now p.now.starts.now self.old }
+        ensures { Kept p.now.text.text.now p.now.starts.now self.new }
     {
         // Kept: a step is a chunk, or a byte and any number of quiet ones behind it, so no `for` counts the steps.
-        while self.at < p.text.len() && !self.is_over(p) {
+        while self.at < p.text.text.len() && !self.is_over(p) {
             self.onward(p);
         }
     }
@@ -379,18 +384,18 @@ fn quiet_end(s: &[u8], from: usize, to: usize) -> usize
     }
 }
 
-// For each of some places in rising order what a search for a body that begins there finds, where it is known. Not a list on the heap: a search
-// takes no memory from there.
-pub fn note_bodies(s: &[u8], t: &[u16; 36865], starts: &[u32]) -> [Sought; 2048]
+// For each of some places in rising order what a search for a body that begins there finds, where it is known. Entries behind the last place are
+// unknown.
+pub fn note_bodies(text: TextSums, starts: &[u32]) -> [Sought; 2048]
     requires most { length starts.now ≤ 2048 }
-    requires rising { Rising s.now starts.now (length starts.now) }
-    requires summed { Summed s.now t.now }
-    ensures { Finds s.now starts.now (length starts.now) result }
+    requires rising { Rising text.text.now starts.now (length starts.now) }
+    ensures { Finds text.entry.text.now starts.now (length starts.now) result }
 {
     let Some(first) = starts.first() else {
         return [Sought::Unknown; MOST];
     };
-    if 4294967292 < s.len() {
+    let end = text.text.len();
+    if 4294967292 < end {
         return [Sought::Unknown; MOST];
     }
     let mut walk = Walk {
@@ -401,13 +406,8 @@ pub fn note_bodies(s: &[u8], t: &[u16; 36865], starts: &[u32]) -> [Sought; 2048]
         groups: Groups::new(),
         searches: Searches::new(),
     };
-    let p = Places {
-        text: s,
-        sums: t,
-        starts,
-    };
-    walk.walk(&p);
-    if s.len() <= walk.at {
+    walk.walk(&Places { text, starts });
+    if end <= walk.at {
         walk.searches.finish();
     }
     walk.searches.told

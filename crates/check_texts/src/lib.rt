@@ -7,10 +7,9 @@ ghost use Rattle.functions.specs.Shown.{limits_of};
 ghost use Rattle.listing.specs.Writes.{Room, Writes};
 ghost use Rattle.regressions.specs.Worse.{worse_in};
 ghost use Rattle.in_order.specs.StaleKeys.{stale_in};
-ghost use Rattle.stale.specs.Known.{Known};
 ghost use Rattle.check_texts.specs.Texts.{stale_length, verdict_length};
 
-use functions::{Functions, Limits};
+use functions::Limits;
 use listing::{Size, Writer};
 use regressions::Entries;
 use stale::Stale;
@@ -29,19 +28,17 @@ pub fn stale_length(keys: Size) -> usize
 }
 
 // The text about the stale entries.
-pub fn write_stale(w: &mut Writer<'_>, fs: Functions, lines: &[u8], stale: Stale)
-    requires counted { stale.size.count ≡ length (stale_in fs.tree.now lines.now) }
-    requires known { Known stale.order fs.tree.now lines.now }
-    requires short { length lines.now ≤ 33554432 }
-    requires room { Room (stale_text (stale_in fs.tree.now lines.now)) w.old }
-    ensures { Writes (stale_text (stale_in fs.entry.tree.now lines.now)) w.old w.new }
+pub fn write_stale(w: &mut Writer<'_>, stale: Stale)
+    requires counted { stale.size.count ≡ length (stale_in stale.functions.tree.now stale.baseline.lines.now) }
+    requires room { Room (stale_text (stale_in stale.functions.tree.now stale.baseline.lines.now)) w.old }
+    ensures { Writes (stale_text (stale_in stale.entry.functions.tree.now stale.entry.baseline.lines.now)) w.old w.new }
 {
     if stale.size.count == 0 {
         return;
     }
     w.number(stale.size.count as u64);
     w.text(b" baseline entries no longer exist:\n");
-    stale::write_all(fs, lines, stale.order, w);
+    stale::write_all(stale, w);
     w.text(b"run --update to drop them\n");
 }
 

@@ -8,16 +8,21 @@ use Rattle.flat.specs.Body.{Counted, body_from}
 use Rattle.flat.specs.declared.Counts.{Counts}
 use Rattle.chunks.specs.declared.Round.{Round}
 use Rattle.chunks.specs.declared.Chunk.{Chunk}
+use Rattle.chunks.specs.declared.Ends.{Ends}
 
 -- a round bracket with as many open inside it as are closed there is sought on behind them
 abbrev pub PassesRound : List ℕ → (from to : ℕ) → Round → Type 0
 PassesRound s from to r =
     (depth : ℕ) → r.closed ≤ depth → partner round_open round_close depth from (drop from s) ≡ partner round_open round_close (depth - r.closed + r.opened) to (drop to s)
 
--- no { or ; there ends a search for a body with these counts: those outside the angle brackets that are opened there have fewer of the ones before closed
--- than the search has open, or all stand above the level of the search, or all below it
+-- no { or ; there ends a search for a body with these counts: none stands outside the angle brackets that are opened there, or those that do have
+-- fewer of the ones before closed than the search has open, or all stand above the level of the search, or all below it
+abbrev pub MissesEnds : Option Ends → (angle opened closed : ℕ) → Type 0
+MissesEnds None angle opened closed = Unit {0}
+MissesEnds (Some e) angle opened closed = (e.ended < angle) ⊎ ((4096 + closed < e.low + opened) ⊎ (e.high + opened < 4096 + closed))
+
 abbrev pub Misses : Chunk → (angle opened closed : ℕ) → Type 0
-Misses c angle opened closed = (c.ended < angle) ⊎ ((4096 + closed < c.low + opened) ⊎ (c.high + opened < 4096 + closed))
+Misses c = MissesEnds c.ends
 
 pub record PassesBody (s : List ℕ) (from to : ℕ) (c : Chunk) : Type 0 where
   pub passes : (angle opened closed : ℕ) → Misses c angle opened closed
@@ -30,9 +35,6 @@ pub record PassesBody (s : List ℕ) (from to : ℕ) (c : Chunk) : Type 0 where
 pub record Summary (s : List ℕ) (at : ℕ) (c : Chunk) : Type 0 where
   pub inside : at + 4096 ≤ length s
   pub passing : PassesBody s at (at + 4096) c
-  pub downs_most : c.downs ≤ 65535
-  pub low-most : c.low ≤ 65535
-  pub high-most : c.high ≤ 65535
 
 abbrev pub TellsChunk : List ℕ → (at : ℕ) → Option Chunk → Type 0
 TellsChunk s at (Some c) = Summary s at c

@@ -9,15 +9,16 @@ use Rattle.flat.specs.declared.Counts.{Counts}
 use Rattle.chunks.specs.Passing.{Misses, Summary, TellsCounts, TellsDepth}
 use Rattle.chunks.specs.Table.{Entry}
 use Rattle.chunks.specs.declared.Chunk.{Chunk}
+use Rattle.chunks.specs.declared.Sums.{Sums}
 
 -- a round bracket with as many open inside it as are closed in the chunk is sought on behind it
-pub round-further : (s : List ℕ) (at : ℕ) (sums : ℕ → ℕ) (depth : ℕ) → Entry s at sums → at + 4096 ≤ length s → depth ≤ at → sums 0 ≤ depth
-    → TellsDepth s at depth (Some (depth - sums 0 + sums 1))
-round-further s at sums depth h l d c = (
+pub round-further : (s : List ℕ) (at : ℕ) (x : Sums) (depth : ℕ) → Entry s at x → at + 4096 ≤ length s → depth ≤ at → x.round.closed ≤ depth
+    → TellsDepth s at depth (Some (depth - x.round.closed + x.round.opened))
+round-further s at x depth h l d c = (
   l,
   omega (arith, h.opened-most, d, c),
   λ more.
-      let e : depth + more - sums 0 + sums 1 ≡ depth - sums 0 + sums 1 + more = omega (arith, c) in
+      let e : depth + more - x.round.closed + x.round.opened ≡ depth - x.round.closed + x.round.opened + more = omega (arith, c) in
       h.round (depth + more) (omega (arith, c)) ∙ ap (λ k. partner round_open round_close k (at + 4096) (drop (at + 4096) s)) e,
 )
 
@@ -36,14 +37,14 @@ brackets_most s at c h =
     )
 
 -- counts stay counts further on
-pub counted-further : (n : Counts) (at to : ℕ) → at ≤ to → Counted n at → Counted n to
-counted-further n at to h k =
+pub counted_further : (n : Counts) (at to : ℕ) → at ≤ to → Counted n at → Counted n to
+counted_further n at to h k =
     record { angle_most = omega (arith, k.angle_most, h); opened-most = omega (arith, k.opened-most, h); closed-most = omega (arith, k.closed-most, h) }
 
 -- a search for a body that does not end in a chunk goes on behind it
-pub body-further : (s : List ℕ) (at : ℕ) (c : Chunk) (n : Counts) → Summary s at c → Counted n at → Misses c n.angle n.opened n.closed
+pub body_further : (s : List ℕ) (at : ℕ) (c : Chunk) (n : Counts) → Summary s at c → Counted n at → Misses c n.angle n.opened n.closed
     → TellsCounts s at n (Some (counts_past c n))
-body-further s at c n h k m =
+body_further s at c n h k m =
     let b = brackets_most s at c h in (
       h.inside,
       h.passing.passes n.angle n.opened n.closed m,

@@ -1,31 +1,36 @@
 -- The sums of some bytes, from one byte to the next.
-use Rattle.std.specs.Prelude.{ℕ, suc, ◌+◌, ◌-◌, ◌≤◌, ◌<◌, min, max, ◌≡◌, ◌⊎◌, ◌≢◌, false, List, length, drop, get_or}
+use Rattle.std.specs.Prelude.{ℕ, suc, ◌+◌, ◌-◌, ◌≤◌, ◌<◌, min, max, ◌≡◌, ◌⊎◌, ◌≢◌, false, List, Option, Some, None, length, drop, get_or}
 use Rattle.std.proofs.Math.Path.{refl, sym}
-use Rattle.std.proofs.Common.{ap, ◌∙◌, sub-one, arith}
+use Rattle.std.proofs.Common.{ap, subst, ◌∙◌, sub-one, arith}
 use Rattle.std.proofs.Math.Logic.{inl, inr}
-use Rattle.std.proofs.Math.Option.{Option}
 use borrow.Author.Tests.{ne_eqb}
-use Rattle.text_rules.specs.Classes.{angle_close, angle_open, brace_open, round_close, round_open, semicolon, square_close, square_open}
+use Rattle.text_rules.specs.Classes.{angle_close, angle_open, brace_open, semicolon, square_close, square_open}
 use Rattle.text_rules.specs.Search.{count_after}
-use Rattle.source_rules.specs.Brackets.{partner}
 use Rattle.source_rules.specs.Finding.{angle_after, body_at, flat}
 use Rattle.source_rules.proofs.MeasuresLaws.{count-after}
-use Rattle.source_rules.proofs.WalkSteps.{partner_close, partner_open, partner-other}
 use Rattle.blocks.specs.Blocks.{count-behind, count_none, count_from}
 use Rattle.flat.specs.Body.{Plain}
 use Rattle.flat.specs.BodyLaws.{passed}
 use Rattle.flat.specs.FlatLaws.{angle_raised, squares_raised}
-use Rattle.chunks.specs.Passing.{Misses, PassesBody, PassesRound}
+use Rattle.chunks.specs.Passing.{Misses, MissesEnds, PassesBody}
 use Rattle.chunks.specs.declared.Chunk.{Chunk}
+use Rattle.chunks.specs.declared.Ends.{Ends}
+
+-- bounds of the { and ; of some bytes that close so many >
+abbrev pub EndsWithin : (downs : ℕ) → Option Ends → Type 0
+EndsWithin downs None = Unit {0}
+EndsWithin downs (Some e) = (e.ended ≤ downs) × (e.low ≤ 8192) × (e.high ≤ 8192)
+
+ends_later : (downs downs' : ℕ) (o : Option Ends) → downs ≤ downs' → EndsWithin downs o → EndsWithin downs' o
+ends_later downs downs' None h w = tt
+ends_later downs downs' (Some e) h w = (omega (arith, h, w.0), w.1, w.2)
 
 -- bounds of the sums of n bytes
 pub record Within (n : ℕ) (c : Chunk) : Type 0 where
   pub angles_most : c.downs + c.ups ≤ n
   pub opened-most : c.opened ≤ n
   pub closed-most : c.closed ≤ n
-  pub ended-most : c.ended ≤ c.downs
-  pub low-most : c.low ≤ 8193
-  pub high-most : c.high ≤ 8192
+  pub ends_most : EndsWithin c.downs c.ends
 
 -- they hold for more bytes too
 pub within_more : (n m : ℕ) (c : Chunk) → n ≤ m → Within n c → Within m c
@@ -34,12 +39,16 @@ within_more n m c h w =
       angles_most = omega (arith, h, w.angles_most);
       opened-most = omega (arith, h, w.opened-most);
       closed-most = omega (arith, h, w.closed-most);
-      ended-most = w.ended-most;
-      low-most = w.low-most;
-      high-most = w.high-most;
+      ends_most = w.ends_most;
     }
 
--- bytes with the sums c and a byte b behind them have the sums r: a search that misses r misses c, is not ended by b, and has the counts of r behind it
+-- no bytes have sums of 0, and no { or ;
+pub within_none : (c : Chunk) → c.downs ≡ 0 → c.ups ≡ 0 → c.opened ≡ 0 → c.closed ≡ 0 → c.ends ≡ None → Within 0 c
+within_none c d u o k e =
+    record { angles_most = omega (arith, d, u); opened-most = omega (arith, o); closed-most = omega (arith, k); ends_most = subst (EndsWithin c.downs) (sym e) tt }
+
+-- bytes with the sums c and a byte b behind them have the sums r: a search that misses r misses c, is not ended by b, and has the counts of r behind
+-- it
 pub record Behind (b : ℕ) (c r : Chunk) : Type 0 where
   pub angle_behind : (angle : ℕ) → angle_after b (angle - c.downs + c.ups) ≡ angle - r.downs + r.ups
   pub opened-behind : count_after square_open b c.opened ≡ r.opened
@@ -52,20 +61,24 @@ pub record Behind (b : ℕ) (c r : Chunk) : Type 0 where
 -- sums with so many more <, [ and ]
 abbrev pub more : Chunk → (ups opened closed : ℕ) → Chunk
 more c ups opened closed =
-    record { downs = c.downs; ups = c.ups + ups; opened = c.opened + opened; closed = c.closed + closed; low = c.low; high = c.high; ended = c.ended }
+    record { downs = c.downs; ups = c.ups + ups; opened = c.opened + opened; closed = c.closed + closed; ends = c.ends }
 
 -- sums with other angle brackets
 abbrev pub angled : Chunk → (downs ups : ℕ) → Chunk
-angled c downs ups = record { downs = downs; ups = ups; opened = c.opened; closed = c.closed; low = c.low; high = c.high; ended = c.ended }
+angled c downs ups = record { downs = downs; ups = ups; opened = c.opened; closed = c.closed; ends = c.ends }
+
+-- the { and ; with one more, at a level and behind so many >
+abbrev pub ends_with : Option Ends → (level ended : ℕ) → Ends
+ends_with None level ended = record { low = level; high = level; ended = ended }
+ends_with (Some e) level ended = record { low = min e.low level; high = max e.high level; ended = ended }
 
 -- sums with one more { or ; that stands outside angle brackets
 abbrev pub with_stop : Chunk → Chunk
 with_stop c =
-    let level = 4096 + c.opened - c.closed in
-    record { downs = c.downs; ups = c.ups; opened = c.opened; closed = c.closed; low = min c.low level; high = max c.high level; ended = c.downs }
+    record { downs = c.downs; ups = c.ups; opened = c.opened; closed = c.closed; ends = Some (ends_with c.ends (4096 + c.opened - c.closed) c.downs) }
 
 -- the sums behind a byte that ends no search
-module _ (b : ℕ) (c r : Chunk) (no-brace : b ≢ brace_open) (no-semicolon : b ≢ semicolon) (low : r.low ≡ c.low) (high : r.high ≡ c.high) (ended : r.ended ≡ c.ended) where
+module _ (b : ℕ) (c r : Chunk) (no-brace : b ≢ brace_open) (no-semicolon : b ≢ semicolon) (ends : r.ends ≡ c.ends) where
   pub behind-counted : ((angle : ℕ) → angle_after b (angle - c.downs + c.ups) ≡ angle - r.downs + r.ups)
       → count_after square_open b c.opened ≡ r.opened
       → count_after square_close b c.closed ≡ r.closed
@@ -77,15 +90,13 @@ module _ (b : ℕ) (c r : Chunk) (no-brace : b ≢ brace_open) (no-semicolon : b
         angle_behind = angles;
         opened-behind = opens;
         closed-behind = closes;
-        missed-before = λ angle opened closed m. rw (low, high, ended) at m;
+        missed-before = λ angle opened closed m. rw ends at m;
         goes_on = λ angle opened closed m. inr (no-brace, no-semicolon);
         within = λ n h w. record {
           angles_most = omega (arith, most, w.angles_most);
           opened-most = omega (arith, opens, (count-after square_open b c.opened).1, w.opened-most);
           closed-most = omega (arith, closes, (count-after square_close b c.closed).1, w.closed-most);
-          ended-most = omega (arith, ended, downs, w.ended-most);
-          low-most = omega (arith, low, w.low-most);
-          high-most = omega (arith, high, w.high-most);
+          ends_most = ends_later c.downs r.downs r.ends downs (subst (EndsWithin c.downs) (sym ends) w.ends_most);
         };
       }
 
@@ -94,28 +105,28 @@ module _ (b : ℕ) (c : Chunk) where
   pub behind_angle_open : b ≡ angle_open → Behind b c (more c 1 0 0)
   unfolding angle_after count_after
   behind_angle_open e =
-      behind-counted b c (more c 1 0 0) (λ k. omega (arith, e, k)) (λ k. omega (arith, e, k)) refl refl refl (λ angle. rw e (omega arith)) (rw e (omega arith)) (rw e (omega arith)) (omega arith) (omega arith)
+      behind-counted b c (more c 1 0 0) (λ k. omega (arith, e, k)) (λ k. omega (arith, e, k)) refl (λ angle. rw e (omega arith)) (rw e (omega arith)) (rw e (omega arith)) (omega arith) (omega arith)
 
   pub behind_square_open : b ≡ square_open → Behind b c (more c 0 1 0)
   unfolding angle_after count_after
   behind_square_open e =
-      behind-counted b c (more c 0 1 0) (λ k. omega (arith, e, k)) (λ k. omega (arith, e, k)) refl refl refl (λ angle. rw e (omega arith)) (rw e (omega arith)) (rw e (omega arith)) (omega arith) (omega arith)
+      behind-counted b c (more c 0 1 0) (λ k. omega (arith, e, k)) (λ k. omega (arith, e, k)) refl (λ angle. rw e (omega arith)) (rw e (omega arith)) (rw e (omega arith)) (omega arith) (omega arith)
 
   pub behind_square_close : b ≡ square_close → Behind b c (more c 0 0 1)
   unfolding angle_after count_after
   behind_square_close e =
-      behind-counted b c (more c 0 0 1) (λ k. omega (arith, e, k)) (λ k. omega (arith, e, k)) refl refl refl (λ angle. rw e (omega arith)) (rw e (omega arith)) (rw e (omega arith)) (omega arith) (omega arith)
+      behind-counted b c (more c 0 0 1) (λ k. omega (arith, e, k)) (λ k. omega (arith, e, k)) refl (λ angle. rw e (omega arith)) (rw e (omega arith)) (rw e (omega arith)) (omega arith) (omega arith)
 
-  pub behind-plain : Plain b → Behind b c c
+  pub behind_plain : Plain b → Behind b c c
   unfolding angle_after count_after
-  behind-plain p =
-      behind-counted b c c p.0 p.1 refl refl refl (λ angle. rw (ne_eqb b angle_open p.2, ne_eqb b angle_close p.3)) (rw (ne_eqb b square_open p.4)) (rw (ne_eqb b square_close p.5)) (omega arith) (omega arith)
+  behind_plain p =
+      behind-counted b c c p.0 p.1 refl (λ angle. rw (ne_eqb b angle_open p.2, ne_eqb b angle_close p.3)) (rw (ne_eqb b square_open p.4)) (rw (ne_eqb b square_close p.5)) (omega arith) (omega arith)
 
   -- a > closes a < of these bytes, or one from before
   pub behind_angle_close : b ≡ angle_close → (downs ups : ℕ) → downs ≡ c.downs + (1 - c.ups) → ups ≡ c.ups - 1 → Behind b c (angled c downs ups)
   unfolding angle_after count_after
   behind_angle_close e downs ups d u =
-      behind-counted b c (angled c downs ups) (λ k. omega (arith, e, k)) (λ k. omega (arith, e, k)) refl refl refl
+      behind-counted b c (angled c downs ups) (λ k. omega (arith, e, k)) (λ k. omega (arith, e, k)) refl
       (λ angle. rw (e, sym (sub-one (angle - c.downs + c.ups))) (omega (arith, d, u))) (rw e) (rw e) (omega (arith, d)) (omega (arith, d, u))
 
 -- the sums behind a { or ;
@@ -133,8 +144,8 @@ module _ (b : ℕ) (c : Chunk) (stop : (b ≡ brace_open) ⊎ (b ≡ semicolon))
   closed-stop = elim stop [ inl e ↦ rw e | inr e ↦ rw e ]
 
   -- inside angle brackets it ends no search
-  pub behind-inside : 0 < c.ups → Behind b c c
-  behind-inside h =
+  pub behind_inside : 0 < c.ups → Behind b c c
+  behind_inside h =
       record {
         angle_behind = λ angle. angle_stop (angle - c.downs + c.ups);
         opened-behind = opened-stop;
@@ -145,33 +156,50 @@ module _ (b : ℕ) (c : Chunk) (stop : (b ≡ brace_open) ⊎ (b ≡ semicolon))
       }
 
   -- outside it ends none that misses it
-  pub behind-stop : c.ups ≡ 0 → Within 4095 c → Behind b c (with_stop c)
-  behind-stop z w =
-      record {
-        angle_behind = λ angle. angle_stop (angle - c.downs + c.ups);
-        opened-behind = opened-stop;
-        closed-behind = closed-stop;
-        missed-before = missed;
-        goes_on = λ angle opened closed m. inl (not_flat angle opened closed m);
-        within = λ n k v. record {
-          angles_most = omega (arith, v.angles_most);
-          opened-most = omega (arith, v.opened-most);
-          closed-most = omega (arith, v.closed-most);
-          ended-most = omega arith;
-          low-most = omega (arith, v.low-most);
-          high-most = omega (arith, k, v.high-most, v.opened-most);
-        };
-      }
-    where
-      missed : (angle opened closed : ℕ) → Misses (with_stop c) angle opened closed → Misses c angle opened closed
-      missed angle opened closed (inl m) = inl (omega (arith, m, w.ended-most))
-      missed angle opened closed (inr (inl m)) = inr (inl (omega (arith, m)))
-      missed angle opened closed (inr (inr m)) = inr (inr (omega (arith, m)))
+  module _ (z : c.ups ≡ 0) (w : Within 4095 c) where
+    abbrev level : ℕ
+    level = 4096 + c.opened - c.closed
 
-      not_flat : (angle opened closed : ℕ) → Misses (with_stop c) angle opened closed → flat (angle - c.downs + c.ups) (opened + c.opened) (closed + c.closed) ≡ false
-      not_flat angle opened closed (inl m) = angle_raised (angle - c.downs + c.ups) (opened + c.opened) (closed + c.closed) (omega (arith, m))
-      not_flat angle opened closed (inr (inl m)) = squares_raised (angle - c.downs + c.ups) (opened + c.opened) (closed + c.closed) (λ e. omega (arith, m, e, w.closed-most))
-      not_flat angle opened closed (inr (inr m)) = squares_raised (angle - c.downs + c.ups) (opened + c.opened) (closed + c.closed) (λ e. omega (arith, m, e, w.closed-most))
+    abbrev MissesMet : Option Ends → (angle opened closed : ℕ) → Type 0
+    MissesMet o angle opened closed = MissesEnds (Some (ends_with o level c.downs)) angle opened closed
+
+    missed : (o : Option Ends) → EndsWithin c.downs o → (angle opened closed : ℕ) → MissesMet o angle opened closed → MissesEnds o angle opened closed
+    missed None h angle opened closed m = tt
+    missed (Some e) h angle opened closed (inl m) = inl (omega (arith, m, h.0))
+    missed (Some e) h angle opened closed (inr (inl m)) = inr (inl (omega (arith, m)))
+    missed (Some e) h angle opened closed (inr (inr m)) = inr (inr (omega (arith, m)))
+
+    -- the level of the byte is between those of all
+    between : (o : Option Ends) → ((ends_with o level c.downs).low ≤ level) × (level ≤ (ends_with o level c.downs).high) × ((ends_with o level c.downs).ended ≡ c.downs)
+    between None = (omega arith, omega arith, refl)
+    between (Some e) = (omega arith, omega arith, refl)
+
+    not_flat : (o : Option Ends) (angle opened closed : ℕ) → MissesMet o angle opened closed → flat (angle - c.downs + c.ups) (opened + c.opened) (closed + c.closed) ≡ false
+    not_flat o angle opened closed (inl m) = angle_raised (angle - c.downs + c.ups) (opened + c.opened) (closed + c.closed) (omega (arith, m, (between o).2))
+    not_flat o angle opened closed (inr (inl m)) =
+        squares_raised (angle - c.downs + c.ups) (opened + c.opened) (closed + c.closed) (λ e. omega (arith, m, e, w.closed-most, (between o).0))
+    not_flat o angle opened closed (inr (inr m)) =
+        squares_raised (angle - c.downs + c.ups) (opened + c.opened) (closed + c.closed) (λ e. omega (arith, m, e, w.closed-most, (between o).1))
+
+    ends_low : (n : ℕ) → n ≤ 4095 → c.opened ≤ n → (o : Option Ends) → EndsWithin c.downs o → EndsWithin c.downs (Some (ends_with o level c.downs))
+    ends_low n k h None v = (omega arith, omega (arith, k, h), omega (arith, k, h))
+    ends_low n k h (Some e) v = (omega arith, omega (arith, v.1), omega (arith, k, h, v.2))
+
+    pub behind_stop : Behind b c (with_stop c)
+    behind_stop =
+        record {
+          angle_behind = λ angle. angle_stop (angle - c.downs + c.ups);
+          opened-behind = opened-stop;
+          closed-behind = closed-stop;
+          missed-before = missed c.ends w.ends_most;
+          goes_on = λ angle opened closed m. inl (not_flat c.ends angle opened closed m);
+          within = λ n k v. record {
+            angles_most = omega (arith, v.angles_most);
+            opened-most = omega (arith, v.opened-most);
+            closed-most = omega (arith, v.closed-most);
+            ends_most = ends_low n k v.opened-most c.ends v.ends_most;
+          };
+        }
 
 -- where there are no bytes, nothing changes
 pub body-none : (s : List ℕ) (from : ℕ) (c : Chunk) → Within 0 c → PassesBody s from from c
@@ -215,30 +243,3 @@ body-next s from at c r h i p w q =
       closed_is = sym q.closed-behind ∙ count-more square_close s from at c.closed h p.closed_is;
       ups_most = omega (arith, w.angles_most);
     }
-
--- the same for round brackets, by what the byte is
-module _ (s : List ℕ) (from at closed opened : ℕ) (h : at < length s) (p : PassesRound s from at (record { closed = closed; opened = opened })) where
-  abbrev sought : (depth next : ℕ) → Option ℕ
-  sought depth next = partner round_open round_close depth next (drop next s)
-
-  pub round_open_lem : get_or s at 0 ≡ round_open → PassesRound s from (at + 1) (record { closed = closed; opened = opened + 1 })
-  round_open_lem e depth k =
-      let same : depth - closed + opened + 1 ≡ depth - closed + (opened + 1) = omega arith in
-      p depth k ∙ partner_open s at h round_open round_close (depth - closed + opened) (λ z. omega (arith, z)) e ∙ ap (λ d. sought d (at + 1)) same
-
-  -- a bracket that was opened there is closed
-  pub round-inner : get_or s at 0 ≡ round_close → 0 < opened → PassesRound s from (at + 1) (record { closed = closed; opened = opened - 1 })
-  round-inner e o depth k =
-      let same : depth - closed + opened - 1 ≡ depth - closed + (opened - 1) = omega (arith, o) in
-      p depth k ∙ partner_close s at h round_open round_close (depth - closed + opened) (λ z. omega (arith, z)) e (λ z. omega (arith, o, z)) ∙ ap (λ d. sought d (at + 1)) same
-
-  -- one from before is closed
-  pub round_outer : get_or s at 0 ≡ round_close → opened ≤ 0 → PassesRound s from (at + 1) (record { closed = closed + 1; opened = opened })
-  round_outer e o depth k =
-      let same : depth - closed + opened - 1 ≡ depth - (closed + 1) + opened = omega (arith, o) in
-      p depth (omega (arith, k))
-      ∙ partner_close s at h round_open round_close (depth - closed + opened) (λ z. omega (arith, z)) e (λ z. omega (arith, k, z))
-      ∙ ap (λ d. sought d (at + 1)) same
-
-  pub round-other : get_or s at 0 ≢ round_open → get_or s at 0 ≢ round_close → PassesRound s from (at + 1) (record { closed = closed; opened = opened })
-  round-other m n depth k = p depth k ∙ partner-other s at h round_open round_close (depth - closed + opened) m n

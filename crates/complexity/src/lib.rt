@@ -1,5 +1,6 @@
 // The calls for hosts, on byte slices, which the crate complexity_c exports to C. Each returns the call's number: 0 on success, or what was refused.
 // On success the counts are put into lent bytes, four for each, the lowest first; a refusal leaves them as they were.
+// Kept: the answers are numbers, not results, since C reads them.
 // Kept: a host lends each buffer on its own, as C passes it, so that no struct holds the buffers of a call.
 // Kept: four calls ask for room, call, and tell the counts. Two forms were tried: a function over the call as a closure, whose bound names the number
 // of counts, which Rattle does not cover; and a `map` of the answer to an array, of which nothing is known where `map` returns.

@@ -29,6 +29,7 @@ fn short_enough(tree: &[u8], baseline: &[u8]) -> Result<(), Refusal>
 }
 
 // What is printed, at the start of the output.
+// Kept: the report's program ends alike, with counts of another type. A function for both would be handed the bytes that each takes out of its own.
 fn put_answer(
     tree: &[u8],
     baseline: &[u8],

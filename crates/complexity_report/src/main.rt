@@ -13,6 +13,7 @@ use answers::Refusal;
 const MOST: usize = 65536;
 
 // What is printed, at the start of the output.
+// Kept: the check's program ends alike, with counts of another type. A function for both would be handed the bytes that each takes out of its own.
 #[tactic(auto, using(crate::proofs::Refusals::refusals))]
 fn put_answer(tree: &[u8], work: &mut [u8], lent: &mut [u8], output: &mut [u8]) -> usize
     requires { (work.old ≡ zeros) × (lent.old ≡ zeros) × (output.old ≡ zeros) }

@@ -1,5 +1,5 @@
-// Writes the baseline of the tree file on standard input, of at most 65,536 bytes, and prints how many functions it records. A refusal is its number and
-// a newline, and nothing is written. One byte more than that is read, so that a longer tree shows.
+// Writes the baseline of the tree file on standard input, of at most 65,536 bytes, and prints how many functions it records. A refusal is its number
+// and a newline, and nothing is written. One byte more than that is read, so that a longer tree shows.
 #![tactic(auto)]
 
 ghost use Rattle.std.specs.Prelude.{◌≤◌, ◌≡◌, length, take};
@@ -82,7 +82,7 @@ fn answer(rt: &(impl Files + Print + Eprint), tree: &[u8]) {
     let r = put_answer(tree, &mut work, &mut lent, &mut output, &mut line);
     let end = r.line;
     if let Some(file) = r.file {
-        if !programs::write_baseline(rt, &output[..file]) {
+        if programs::write_baseline(rt, &output[..file]).is_none() {
             return;
         }
     }

@@ -117,8 +117,8 @@ struct Tally {
     closes: usize,
 }
 
-// How many bytes of a block are `x`. Few blocks have brackets of each kind, and to ask is shorter than to count. Counts that follow each other
-// without a question are mixed by the compiler, and take as long as byte by byte.
+// How many bytes of a block are `x`. Few blocks have brackets of each kind, and to look for one is shorter than to count. Counts that follow each
+// other without a test between them are mixed by the compiler, and take as long as byte by byte.
 #[tactic(auto, using(crate::specs::BlockLaws::count_lacking))]
 fn count_asked(s: &[u8], at: usize, x: u8) -> usize
     requires { at + 16 ≤ length s.now }
@@ -173,11 +173,11 @@ fn body_blocks(s: &[u8], from: usize, to: usize, n: Counts) -> Halt
     Halt { at: to, counts }
 }
 
-// The bytes that are read one by one where a block cannot be passed, before the next is asked: a text of such blocks loses little by the questions.
+// The bytes that are read one by one where a block cannot be passed, before the next is tested: a text of such blocks loses little by the tests.
 const STRETCH: usize = 1024;
 
-// The same search where it is long: by blocks as far as they can be passed, then a stretch of bytes, and so on. Blocks and bytes have a loop each: a
-// byte of a block that is read in the same loop keeps the compiler from reading the sixteen at once.
+// The search for a body where it is long: by blocks as far as they can be passed, then a stretch of bytes, and so on. Blocks and bytes have a loop
+// each: a byte of a block that is read in the same loop keeps the compiler from reading the sixteen at once.
 fn body_further(s: &[u8], from: usize, to: usize, n: Counts) -> Reached
     requires { (from ≤ to) × (to ≤ length s.now) × Counted n from }
     ensures { Reaches s.now from to n result }
@@ -200,7 +200,7 @@ fn body_further(s: &[u8], from: usize, to: usize, n: Counts) -> Reached
     Reached::Further(counts)
 }
 
-// The same search. Most are short, and end before a block is looked at.
+// The brace that opens a body, sought from one place up to another. Most searches are short, and end before a block is looked at.
 pub fn body_before(s: &[u8], from: usize, to: usize, n: Counts) -> Reached
     requires { (from ≤ to) × (to ≤ length s.now) × Counted n from }
     ensures { Reaches s.now from to n result }

@@ -1,3 +1,4 @@
 -- The laws that the functions cite.
 pub mod Read
 pub mod ShortLaws
+pub mod Accepted

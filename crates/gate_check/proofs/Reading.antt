@@ -1,5 +1,5 @@
 -- What is read of a baseline: all of it, or nothing where it is not UTF-8.
-use mathlib.Core.Path.{◌≡◌, refl, ap, ap₂, subst}
+use mathlib.Core.Path.{◌≡◌, refl, ap, ap₂}
 use mathlib.Core.Bool.{true, false}
 use mathlib.Core.List.{List, []}
 use Prim.Native.Nat.{ℕ, zero, suc, ◌≤◌}
@@ -13,16 +13,12 @@ use Rattle.gate_rules.specs.Check.{listing}
 use Rattle.gate_rules.specs.Functions.{Limits, is_comment}
 use Rattle.gate_rules.specs.Gate.{gate}
 use Rattle.gate_rules.proofs.ListingSizes.{listing-length}
-use Rattle.gate_rules.specs.Scan.{Accepted, functions_of}
+use Rattle.gate_rules.specs.Scan.{functions_of}
 use Rattle.functions.specs.Shown.{Stand}
+use Rattle.functions.proofs.Accepted.{accepted}
 use Rattle.functions.specs.declared.Functions.{Functions}
-use Rattle.stale.specs.Known.{Known}
-use Rattle.stale.specs.declared.KeyOrder.{KeyOrder}
+use Rattle.in_order.specs.StaleKeys.{entries-read, stale_in}
 use Rattle.regressions.specs.Worse.{worse_in}
-
-pub entries-good : (s : List ℕ) → is_utf8 s ≡ true → entries s ≡ entries_of_lines s
-unfolding entries
-entries-good s e = rw e
 
 pub entries_bad : (s : List ℕ) → is_utf8 s ≡ false → entries_of_lines [] ≡ entries s
 unfolding entries entries_of_lines lines_in ended split entry_of is_comment entry_of_fields fields
@@ -32,22 +28,17 @@ pub empty-good : is_utf8 [] ≡ true
 unfolding is_utf8 well_formed_after
 empty-good = refl
 
--- after a scan with room for all records the tree is accepted
-pub accepted : {tree lent : List ℕ} → Stand tree lent → Accepted gate tree
-unfolding gate
-accepted s = record { unrefused = s.unrefused; few = s.few }
-
 pub listing-small : (L : Limits) {tree lent : List ℕ} (lines : List ℕ) → Stand tree lent → is_utf8 lines ≡ true → length lines ≤ 33554432
     → length (listing L (entries_of_lines lines) (functions_of gate tree)) ≤ 90000000
-listing-small L {tree} lines s e h =
-    omega (arith, listing-length L tree (accepted s) lines h, ap (λ es. length (listing L es (functions_of gate tree))) (entries-good lines e))
+listing-small L {tree} {lent} lines s e h =
+    omega (arith, listing-length L tree (accepted tree lent s) lines h, ap (λ es. length (listing L es (functions_of gate tree))) (entries-read lines e))
 
 -- what is told of equal functions and lines
 pub same_worse : (L : Limits) {t u : Functions} {s l : List ℕ} → t ≡ u → s ≡ l → worse_in L t.tree.now s ≡ worse_in L u.tree.now l
 same_worse L e d = ap₂ (λ (f : Functions) (b : List ℕ). worse_in L f.tree.now b) e d
 
-pub same_known : (o : KeyOrder) {t u : Functions} {s l : List ℕ} → t ≡ u → s ≡ l → Known o t.tree.now s → Known o u.tree.now l
-same_known o {t} {u} {s} {l} e d k = subst (λ b. Known o u.tree.now b) d (subst (λ (f : Functions). Known o f.tree.now s) e k)
+pub same_stale : {t u s l : List ℕ} → t ≡ u → s ≡ l → stale_in t s ≡ stale_in u l
+same_stale e d = ap₂ stale_in e d
 
 -- the first of two refusals is no more than the most of them
 pub or_else-most : (m n most : ℕ) → m ≤ most → n ≤ most → (m or_else n) ≤ most

@@ -1,5 +1,6 @@
 // The call check: the functions of a tree against what the baseline accepts, and a listing of what got worse and of what is stale.
 // A baseline that is too long is refused before the tree is scanned. How long the listing is, is known before any of it is written.
+// Kept: a host lends each buffer on its own, as C passes it, so that no struct holds the buffers of a call.
 #![tactic(auto)]
 
 ghost use Rattle.std.specs.Prelude.{◌≡◌, true, ◌≤◌, ltb, length, replicate, take};
@@ -7,6 +8,7 @@ ghost use Rattle.text_rules.specs.Bytes.{put_at, ◌or_else◌, ◌when◌};
 ghost use Rattle.text_rules.specs.Utf8.{is_utf8};
 ghost use Rattle.gate_rules.specs.Baseline.{entries, entries_of_lines};
 ghost use Rattle.gate_rules.specs.Calls.{check_call};
+ghost use Rattle.gate_rules.specs.Check.{listed};
 ghost use Rattle.gate_rules.specs.Functions.{gate_limits};
 ghost use Rattle.gate_rules.specs.Gate.{gate};
 ghost use Rattle.gate_rules.specs.Scan.{functions_of};
@@ -15,13 +17,14 @@ ghost use Rattle.answers.specs.Numbers.{number_of};
 ghost use Rattle.functions.specs.Shown.{limits_of};
 ghost use Rattle.listing.specs.Writes.{Room, Writes};
 ghost use Rattle.regressions.specs.Worse.{worse_in};
+ghost use Rattle.listed_keys.specs.KeyLines.{Sizes};
 ghost use Rattle.in_order.specs.StaleKeys.{stale_in};
-ghost use Rattle.stale.specs.Known.{Known};
 ghost use Rattle.gate_check.specs.Checks.{Checks, Tells, check_told, listing_in};
 
 use answers::Refusal;
+use baseline::Baseline;
 use functions::{Functions, Limits};
-use listing::Writer;
+use listing::{Size, Writer};
 use regressions::Entries;
 use stale::{KeyOrder, Stale};
 
@@ -38,96 +41,99 @@ pub struct CheckCounts {
 }
 
 // The baseline's entries, for the functions of the tree: where a key falls, the place of each function is noted in the lent array of zeros.
-fn entries_of<'a>(
-    fs: Functions<'a>,
-    lines: &'a [u8],
-    order: KeyOrder,
-    places: &'a mut [u32; 8192],
-) -> Entries<'a>
-    requires known { Known order fs.tree.now lines.now }
-    requires short { length lines.now ≤ 33554432 }
-    requires zeros { places.old ≡ replicate 8192 0 }
-    ensures functions { result.functions ≡ fs.entry }
-    ensures lines { result.lines.now ≡ lines.now }
+fn entries_of<'a>(stale: Stale<'a>, places: &'a mut [u32; 8192]) -> Entries<'a>
+    requires { places.old ≡ replicate 8192 0 }
+    ensures functions { result.functions ≡ stale.entry.functions }
+    ensures lines { result.lines.now ≡ stale.entry.baseline.lines.now }
 {
-    if let KeyOrder::Any = order {
-        places::fill(fs, lines, places);
+    let functions = stale.functions;
+    let lines = stale.baseline.lines;
+    if let KeyOrder::Any = stale.order {
+        places::fill(functions, stale.baseline, places);
         return Entries {
-            functions: fs,
+            functions,
             lines,
             places: Some(places),
         };
     }
     Entries {
-        functions: fs,
+        functions,
         lines,
         places: None,
     }
 }
 
-// The listing.
-fn write_listing(
-    w: &mut Writer<'_>,
-    stale: Stale,
-    entries: Entries,
+// What check lists: the stale keys, and what got worse by some limits, with the size of its lines.
+#[derive(Clone, Copy)]
+struct Listing<'a> {
     limits: Limits,
-    regressed: usize,
-)
-    requires stale { stale.size.count ≡ length (stale_in entries.functions.tree.now entries.lines.now) }
-    requires known { Known stale.order entries.functions.tree.now entries.lines.now }
-    requires short { length entries.lines.now ≤ 33554432 }
-    requires regressed { regressed ≡ length (worse_in (limits_of limits) entries.functions.tree.now entries.lines.now) }
-    requires room { Room (listing_in (limits_of limits) entries.functions.tree.now entries.lines.now) w.old }
-    ensures { Writes (listing_in (limits_of limits) entries.entry.functions.tree.now entries.entry.lines.now) w.old w.new }
-{
-    check_texts::write_stale(w, entries.functions, entries.lines, stale);
-    check_texts::write_verdict(w, entries, limits, regressed);
+    stale: Stale<'a>,
+    entries: Entries<'a>,
+    worse: Size,
+    ghost tree: { entries.functions.tree.now ≡ stale.functions.tree.now },
+    ghost lines: { entries.lines.now ≡ stale.baseline.lines.now },
+    ghost stale_sizes: { Sizes stale.size.count stale.size.bytes (stale_in stale.functions.tree.now stale.baseline.lines.now) },
+    ghost worse_count: { worse.count ≡ length (worse_in (limits_of limits) entries.functions.tree.now entries.lines.now) },
+    ghost worse_bytes: { worse.bytes ≡ length (listed (worse_in (limits_of limits) entries.functions.tree.now entries.lines.now)) },
+    ghost worse_short: { worse.bytes ≤ 655360000000 },
 }
 
-// The listing, from the first byte on, and how many bytes it has.
-fn put_listing(
-    output: &mut [u8],
-    stale: Stale,
-    entries: Entries,
-    limits: Limits,
-    regressed: usize,
-) -> usize
-    requires stale { stale.size.count ≡ length (stale_in entries.functions.tree.now entries.lines.now) }
-    requires known { Known stale.order entries.functions.tree.now entries.lines.now }
-    requires short { length entries.lines.now ≤ 33554432 }
-    requires regressed { regressed ≡ length (worse_in (limits_of limits) entries.functions.tree.now entries.lines.now) }
-    requires room { length (listing_in (limits_of limits) entries.functions.tree.now entries.lines.now) ≤ length output.old }
-    ensures end { result ≡ length (listing_in (limits_of limits) entries.entry.functions.tree.now entries.entry.lines.now) }
-    ensures bytes { output.new ≡ put_at 0 (listing_in (limits_of limits) entries.entry.functions.tree.now entries.entry.lines.now) output.old }
-{
-    let mut w = Writer { out: output, at: 0 };
-    write_listing(&mut w, stale, entries, limits, regressed);
-    w.at
+impl Listing<'_> {
+    // Its bytes.
+    fn length(self) -> usize
+        ensures { result ≡ length (listing_in (limits_of self.entry.limits) self.entry.entries.functions.tree.now self.entry.entries.lines.now) }
+    {
+        check_texts::stale_length(self.stale.size) + check_texts::verdict_length(self.worse)
+    }
+
+    // Its text.
+    fn write(self, w: &mut Writer<'_>)
+        requires { Room (listing_in (limits_of self.limits) self.entries.functions.tree.now self.entries.lines.now) w.old }
+        ensures { Writes (listing_in (limits_of self.entry.limits) self.entry.entries.functions.tree.now self.entry.entries.lines.now) w.old w.new }
+    {
+        check_texts::write_stale(w, self.stale);
+        check_texts::write_verdict(w, self.entries, self.limits, self.worse.count);
+    }
+
+    // Its text, from the first byte on, and how many bytes it has.
+    fn put(self, output: &mut [u8]) -> usize
+        requires room { length (listing_in (limits_of self.limits) self.entries.functions.tree.now self.entries.lines.now) ≤ length output.old }
+        ensures end { result ≡ length (listing_in (limits_of self.entry.limits) self.entry.entries.functions.tree.now self.entry.entries.lines.now) }
+        ensures bytes { output.new ≡ put_at 0 (listing_in (limits_of self.entry.limits) self.entry.entries.functions.tree.now self.entry.entries.lines.now) output.old }
+    {
+        let mut w = Writer { out: output, at: 0 };
+        self.write(&mut w);
+        w.at
+    }
 }
 
 // What check says of a scanned tree: 9, or the listing and its counts.
-fn told(
+fn told<'a>(
     limits: Limits,
-    fs: Functions,
-    lines: &[u8],
+    functions: Functions<'a>,
+    baseline: Baseline<'a>,
     output: &mut [u8],
 ) -> Result<CheckCounts, Refusal>
-    requires text { is_utf8 lines.now ≡ true }
-    requires short { length lines.now ≤ 33554432 }
-    ensures { Tells (check_told result) (limits_of limits) (entries_of_lines lines.now) (functions_of gate fs.entry.tree.now) output.old output.new }
+    requires { is_utf8 baseline.lines.now ≡ true }
+    ensures { Tells (check_told result) (limits_of limits) (entries_of_lines baseline.entry.lines.now) (functions_of gate functions.entry.tree.now) output.old output.new }
 {
-    let stale = stale::measure(fs, lines);
+    let stale = stale::measure(functions, baseline);
     let mut places = [0u32; 8192];
-    let entries = entries_of(fs, lines, stale.order, &mut places);
+    let entries = entries_of(stale, &mut places);
     let worse = regressions::measure(entries, limits);
-    let bytes = check_texts::stale_length(stale.size) + check_texts::verdict_length(worse);
-    if output.len() < bytes {
+    let listing = Listing {
+        limits,
+        stale,
+        entries,
+        worse,
+    };
+    if output.len() < listing.length() {
         return Err(Refusal::Output);
     }
-    let written = put_listing(output, stale, entries, limits, worse.count);
+    let written = listing.put(output);
     Ok(CheckCounts {
         written: written as u32,
-        functions: fs.count as u32,
+        functions: functions.count as u32,
         regressed: worse.count as u32,
         stale: stale.size.count as u32,
     })
@@ -174,17 +180,21 @@ pub fn check_with(
     if MAX_BASELINE < baseline.len() {
         return Err(long_refusal(tree, work.len()));
     }
-    let functions = gate_scan::scan(tree, work, lent)?;
-    let fs = Functions {
+    let count = gate_scan::scan(tree, work, lent)?;
+    let functions = Functions {
         tree,
         records: lent,
-        count: functions as usize,
+        count: count as usize,
     };
-    told(limits, fs, &baseline[..read_length(baseline)], output)
+    let read = Baseline {
+        lines: &baseline[..read_length(baseline)],
+    };
+    told(limits, functions, read, output)
 }
 
 // The call check.
-// Kept: `check`, `update` and `report` each hand the gate's limits to a function of their own.
+// Kept: hosts and programs call it by this name, and its contract is in the rules' words for them. With `check_with` alone each would bring the gate's
+// limits, and prove that they are these.
 pub fn check(
     tree: &[u8],
     baseline: &[u8],

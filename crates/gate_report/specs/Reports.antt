@@ -1,5 +1,5 @@
 -- What report answers and leaves, one named equation for each of the answer's numbers, for each lent buffer and for the lent table.
-use Prim.Native.Nat.{ℕ, zero, suc, ◌+◌, ◌≤◌, ◌<◌}
+use Prim.Native.Nat.{ℕ, zero, suc, ◌≤◌, ◌<◌}
 use Rattle.std.specs.Prelude.{Result, ◌≡◌, Bool, ◌||◌, List, [], ◌∷◌, ◌++◌, map, eqb, length, drop, replicate}
 use Rattle.std.proofs.Math.Path.{refl, ap, subst, sym}
 use Rattle.std.proofs.Common.{ap₂, ◌∙◌}
@@ -13,6 +13,8 @@ use Rattle.text_rules.specs.Bytes.{◌or_else◌, ◌when◌, if◌then◌otherw
 use Rattle.text_rules.specs.BytesLaws.{map-append, or_else-first, or_else-rest, when-fails}
 use Rattle.gate_rules.proofs.RefusalLaws.{or_else_lem}
 use Rattle.gate_rules.proofs.BufferLaws.{refusal-most}
+use Rattle.gate_rules.proofs.ConditionLaws.{entries-count}
+use Rattle.gate_rules.proofs.TableLaws.{answer-number}
 use Rattle.gate_rules.specs.Calls.{is_scanned, output_after, records_after, room, work_after}
 use Rattle.gate_rules.specs.Functions.{Limits}
 use Rattle.gate_rules.specs.Gate.{gate}
@@ -20,7 +22,7 @@ use Rattle.gate_rules.specs.Report as rules
 use Rattle.gate_rules.specs.ReportCall.{Reported, report_call, report_number, report_of, sums_after, sums_of}
 use Rattle.gate_rules.specs.Scan.{functions_of}
 use Rattle.gate_rules.proofs.SumLaws.{no_sum}
-use Rattle.gate_rules.specs.Tree.{file_count, sources, sources_from, tree_refusal}
+use Rattle.gate_rules.specs.Tree.{file_count, sources, tree_refusal}
 use Rattle.gate_scan.specs.Scans.{blanked_work, filled}
 use Rattle.sums.specs.Sums.{none, stored, told}
 use Rattle.sums.specs.declared.FileSum.{FileSum}
@@ -41,14 +43,9 @@ abbrev pub any_table : ℕ → List rules.FileSum
 any_table entries = replicate entries no_sum
 
 -- as many files as the tree's table has entries
-from-count : (tree : List ℕ) (left number entry : ℕ) → length (sources_from tree left number entry) ≡ left
-unfolding sources_from
-from-count tree zero number entry = refl
-from-count tree (suc left) number entry = ap suc (from-count tree left (suc number) (entry + 16))
-
 files-count : (tree : List ℕ) → length (gate.files tree) ≡ file_count tree
 unfolding gate sources
-files-count tree = length-map (sources tree) _ ∙ from-count tree (file_count tree) 0 4
+files-count tree = length-map (sources tree) _ ∙ entries-count tree (file_count tree) 0 4
 
 -- the ways that code goes through the first refusals
 module _ (tree : List ℕ) (work entries : ℕ) where
@@ -130,10 +127,6 @@ pub record Reports (r : Answer) (c : Reported) (work records : List ℕ) (sums :
   pub sums-is : map told sums ≡ c.sums
   pub output-is : output ≡ c.output
 
-answered : (n written functions : ℕ) → (answer_at n written functions).number ≡ n
-answered zero written functions = refl
-answered (suc n) written functions = refl
-
 module _ (L : Limits) (tree work records : List ℕ) (table : List FileSum) (output : List ℕ) where
   -- what is answered and left at a number
   record ReportsAt (n : ℕ) (r : Answer) (work' records' : List ℕ) (left : List FileSum) (output' : List ℕ) : Type 0 where
@@ -153,7 +146,7 @@ module _ (L : Limits) (tree work records : List ℕ) (table : List FileSum) (out
   reports_at n r w l left o e q =
       let d = subst (λ m. ReportsAt m r w l left o) (sym e) q in
       record {
-        number_is = d.number_is ∙ sym (answered number (length (report_of gate L tree)) (length (functions_of gate tree)));
+        number_is = d.number_is ∙ sym (answer-number number (length (report_of gate L tree)) (length (functions_of gate tree)));
         written_is = d.written_is;
         functions-is = d.functions-is;
         work-is = d.work-is;

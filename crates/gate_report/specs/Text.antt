@@ -10,8 +10,9 @@ use Rattle.gate_rules.proofs.ListingSizes.{report-length}
 use Rattle.gate_rules.specs.Mean.{mean_text}
 use Rattle.gate_rules.specs.Report.{report_rows, report_text, reported, weight_rows}
 use Rattle.gate_rules.specs.ReportCall.{report_of}
-use Rattle.gate_rules.specs.Scan.{Accepted, functions_of}
+use Rattle.gate_rules.specs.Scan.{functions_of}
 use Rattle.gate_rules.specs.Update.{over_limit}
+use Rattle.functions.proofs.Accepted.{accepted}
 use Rattle.functions.specs.Shown.{Stand}
 use Rattle.report_files.specs.Files.{heaviest_files}
 use Rattle.report_functions.specs.Counting.{Counted}
@@ -51,11 +52,7 @@ module _ (L : Limits) (tree : List ℕ) where
         ∙ joined_length (parts n c.branches c.over)
         ∙ (omega (arith, head-length n c.branches c.over, k.bytes_is))
 
--- where the records stand the tree is accepted, and its report is short
-accepted : (tree lent : List ℕ) → Stand tree lent → Accepted gate tree
-unfolding gate
-accepted tree lent s = record { unrefused = s.unrefused; few = s.few }
-
+-- where the records stand the report is short
 pub text-most : (L : Limits) (tree lent : List ℕ) → Stand tree lent → length (report_of gate L tree) ≤ 30000000
 text-most L tree lent s = report-length L tree (accepted tree lent s)
 

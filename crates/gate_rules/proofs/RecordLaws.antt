@@ -1,7 +1,7 @@
 -- Records that are written one after another are all of them put at once, as many as there is room for.
 use Rattle.std.specs.Prelude.{ℕ, zero, suc, ◌+◌, ◌*◌, ◌-◌, ◌/◌, ◌≤◌, ◌<◌, min, ◌≡◌, refl, true, List, [], ◌++◌, ◌∷◌, ltb, drop, length, take}
 use Rattle.std.proofs.Common.{ap, ap₂, sym, ◌∙◌, inl, inr, arith, le-ltb, lt-ltb, ltb-false, ltb-true}
-use Rattle.text_rules.specs.Bytes.{All, if◌then◌otherwise◌, joined, overwritten, put_at}
+use Rattle.text_rules.specs.Bytes.{All, joined, overwritten, put_at}
 use Rattle.text_rules.specs.BytesLaws.{whether}
 use Rattle.text_rules.proofs.PutLaws.{put-length, put_next}
 use Rattle.text_rules.specs.Sizes.{max_functions, record_width}

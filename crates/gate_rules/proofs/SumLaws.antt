@@ -1,7 +1,7 @@
 -- The sum of a file is the sum over the records that have its number.
-use Rattle.std.specs.Prelude.{ℕ, zero, suc, ◌+◌, ◌<◌, ◌≡◌, refl, List, [], ◌∷◌, ◌++◌, map, eqb, get_or, length}
+use Rattle.std.specs.Prelude.{ℕ, zero, suc, ◌+◌, ◌<◌, ◌≡◌, refl, List, [], ◌∷◌, ◌++◌, map, get_or, length}
 use Rattle.std.proofs.Common.{ap, ap₂, sym, ◌∙◌, append-nil, arith, eq-eqb, ne_eqb}
-use Rattle.text_rules.specs.Bytes.{if◌then◌otherwise◌, total}
+use Rattle.text_rules.specs.Bytes.{total}
 use Rattle.source_rules.specs.Blank.{blanked}
 use Rattle.source_rules.specs.TextScan.{TextFun, functions}
 use Rattle.gate_rules.specs.Functions.{Fun}

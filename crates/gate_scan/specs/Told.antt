@@ -15,7 +15,7 @@ use Rattle.gate_rules.specs.Records.{record_bytes, record_of, records_in, record
 use Rattle.gate_rules.proofs.RecordsLaws.{record_width_lem}
 use Rattle.gate_rules.proofs.ScanForms.{sources-end, sources-step}
 use Rattle.gate_rules.specs.Tree.{Source, entry_at, file_count, source_at, sources_from, text_in, text_length, text_offset}
-use Rattle.source.specs.declared.Cursor.{Cursor}
+use Rattle.source.specs.State.{State}
 use Rattle.source.specs.declared.Found.{Found}
 use Rattle.source.specs.Cursors.{Yields, remaining, text_fun}
 
@@ -50,7 +50,7 @@ told_is s f number place h =
     let size : length (take f.name_len (drop f.name_at s)) ≡ f.name_len = simp (length-take, length-drop) (omega arith) in
     ap (λ n. number ∷ (place + f.name_at) ∷ n ∷ f.line ∷ f.lines ∷ f.cyclomatic ∷ f.nesting ∷ f.params ∷ []) size
 
-module _ (s : List ℕ) (c : Cursor) (f : Found) (d : Cursor) (y : Yields s c f d) (number place : ℕ) where
+module _ (s : List ℕ) (c : State) (f : Found) (d : State) (y : Yields s c f d) (number place : ℕ) where
   -- and they are below 2^32
   pub small : number < 1024 → place + length s ≤ 16777216 → Small number place f
   unfolding text_fun
@@ -90,7 +90,7 @@ unfolding record_bytes u32_bytes
 told-wide number place f = refl
 
 -- no function more
-pub records-end : (s : List ℕ) (c : Cursor) → remaining s c ≡ [] → (number place n : ℕ) (buffer : List ℕ) → put_records n (records_for number place (remaining s c)) buffer ≡ buffer
+pub records-end : (s : List ℕ) (c : State) → remaining s c ≡ [] → (number place n : ℕ) (buffer : List ℕ) → put_records n (records_for number place (remaining s c)) buffer ≡ buffer
 unfolding records_for put_records
 records-end s c e number place n buffer = ap (λ fs. put_records n (map record_bytes (map (record_of (file_at number place)) fs)) buffer) e
 

@@ -1,4 +1,5 @@
 // The scan of a tree: its texts blanked into work, its functions written as records.
+// Kept: a host lends each buffer on its own, as C passes it, so that no struct holds the buffers of a call.
 #![tactic(auto)]
 
 ghost use Rattle.std.specs.Prelude.{◌≡◌, true, map, ◌+◌, ◌/◌, ◌<◌, ◌≤◌, min, length};
@@ -10,14 +11,12 @@ ghost use Rattle.gate_rules.specs.Gate.{gate};
 ghost use Rattle.gate_rules.specs.Scan.{functions_of};
 ghost use Rattle.gate_rules.specs.Tree.{is_laid_out, sources, tree_refusal};
 ghost use Rattle.records.specs.Record.{numbers};
-ghost use Rattle.signatures.specs.Signatures.{Rooms};
 ghost use Rattle.gate_scan.specs.Scans.{Scans, blanked_work, filled, scan_answer};
 ghost use Rattle.gate_scan.specs.Told.{Small, TextsIn, records_for, told};
 
 use answers::Refusal;
 use records::Record;
-use signatures::Notes;
-use source::Found;
+use source::{Cursor, Found};
 
 // The most functions of a tree.
 const MAX_FUNCTIONS: usize = 8192;
@@ -67,25 +66,22 @@ fn record_of(number: usize, place: usize, f: Found) -> Record
     }
 }
 
-// The records of a blanked text's functions, the first with the number `done`; answers the number behind the last. The notes hold nothing of the text
-// before.
-fn scan_text(
-    s: &[u8],
+// The records of a blanked text's functions, the first with the number `done`; answers the number behind the last. The cursor begins anew.
+fn scan_text<'a>(
+    s: &'a [u8],
     number: usize,
     place: usize,
     lent: &mut [u8],
     done: usize,
-    notes: &mut Notes,
+    cursor: &mut Cursor<'a>,
 ) -> usize
-    requires { (number < 1024) × (place + length s.now ≤ 16777216) × (done ≤ 17179869184) × Rooms notes.old }
+    requires { (number < 1024) × (place + length s.now ≤ 16777216) × (done ≤ 17179869184) }
     ensures { (result ≡ done + length (functions s.now))
-        × (lent.new ≡ put_records done (records_for number place (functions s.now)) lent.old)
-        × Rooms notes.new }
+        × (lent.new ≡ put_records done (records_for number place (functions s.now)) lent.old) }
 {
-    notes.clear();
-    let mut cursor = source::start(s);
+    cursor.begin(s);
     let mut n = done;
-    while let Some(f) = cursor.next(notes) {
+    for f in &mut *cursor {
         put_numbered(lent, n, record_of(number, place, f));
         n += 1;
     }
@@ -99,12 +95,12 @@ fn scan_texts(tree: &[u8], work: &[u8], lent: &mut [u8]) -> usize
         × (lent.new ≡ put_records 0 (map record_bytes (records tree.now)) lent.old) }
 {
     let n = layout::file_count(tree);
-    let mut notes = Notes::new();
+    let mut cursor = Cursor::new(&[]);
     let mut done = 0;
     for file in 0..n {
         let text = layout::text_span(tree, file);
         let from = text.start;
-        done = scan_text(&work[text], file, from, lent, done, &mut notes);
+        done = scan_text(&work[text], file, from, lent, done, &mut cursor);
     }
     done
 }

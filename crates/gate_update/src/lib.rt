@@ -1,4 +1,5 @@
 // The update: a tree is scanned, and the functions over the limits are written as the rows of a baseline.
+// Kept: a host lends each buffer on its own, as C passes it, so that no struct holds the buffers of a call.
 #![tactic(auto)]
 
 ghost use Rattle.std.specs.Prelude.{◌≡◌};
@@ -52,6 +53,8 @@ pub fn update_with(
 }
 
 // The call update: the refusals 1 to 5, 8 and 9; the baseline of the functions over the gate's limits.
+// Kept: its contract promises the gate's limits by name. A limit is no type and no constant parameter, and a parameter has no default, so that
+// `update_with` alone could not promise them to a caller who names none.
 pub fn update(
     tree: &[u8],
     work: &mut [u8],

@@ -12,7 +12,7 @@ pub fn boundary<F: Fn(usize) -> bool>(n: usize, test: F) -> usize
 {
     let mut from = 0;
     let mut to = n;
-    // Kept: a turn halves what is left, which no range counts.
+    // Kept: a turn leaves one half or the other, as the test says, so no range tells the turns.
     while from < to {
         let middle = from + (to - from) / 2;
         if test(middle) {

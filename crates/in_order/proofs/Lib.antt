@@ -1,2 +1,4 @@
 -- The laws that the functions cite.
-mod Runs
+mod Following
+mod PassedLines
+mod Measuring

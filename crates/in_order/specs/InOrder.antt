@@ -1,5 +1,5 @@
 -- Stale keys of a baseline whose keys never fall: they stand there in the order in which they are listed, each of them once or more.
-use Rattle.std.specs.Prelude.{ℕ, Option, Some, None, ◌≤◌, ◌≡◌, ◌⊎◌, true, false, ◌||◌}
+use Rattle.std.specs.Prelude.{ℕ, ◌≤◌, ◌≡◌, ◌⊎◌, true, false, ◌||◌}
 use Rattle.std.proofs.Math.Path.{refl, subst}
 use Rattle.std.proofs.Common.{ap, sym, ◌∙◌}
 use Rattle.std.proofs.Math.Logic.{inl, inr}
@@ -14,13 +14,9 @@ use Rattle.text_rules.specs.Selection.{Rising}
 use Rattle.gate_rules.specs.Baseline.{Entry, entry_key}
 use Rattle.gate_rules.specs.Check.{stale}
 use Rattle.gate_rules.specs.Functions.{Fun, key}
-use Rattle.gate_rules.specs.Gate.{gate}
-use Rattle.gate_rules.specs.Scan.{functions_of}
 use Rattle.gate_rules.proofs.StaleLaws.{stale-each, stale-only, stale-rising}
 use Rattle.baseline.specs.Ordered.{Unfalling, fallen, one_key}
-use Rattle.baseline.specs.Reads.{key_in}
-use Rattle.baseline.specs.declared.Span.{Span}
-use Rattle.key_lines.specs.Meets.{repeats}
+use Rattle.key_lines.specs.Keys.{repeats}
 use Rattle.in_order.specs.StaleKeys.{behind}
 
 -- what a key adds to the stale keys: itself, unless it is the last one or a function has it
@@ -37,16 +33,7 @@ abbrev pub added_by : (live : List (List ℕ)) → (last : MathOption (List ℕ)
 added_by live last none = []
 added_by live last (some k) = added live last k
 
--- what a line of a baseline adds to the stale keys of a tree, keys told by their bounds
-abbrev pub added_in : (tree lines : List ℕ) → (last here : Option Span) → List (List ℕ)
-added_in tree lines last here = added_by (map key (functions_of gate tree)) (key_in lines last) (key_in lines here)
-
 -- the last key, after a line more
-abbrev pub latest : Option Span → Option Span → Option Span
-latest last (Some k) = Some k
-latest last None = last
-
--- the same by its bytes
 abbrev pub last_after : (last : MathOption (List ℕ)) → MathOption (List ℕ) → MathOption (List ℕ)
 last_after last none = last
 last_after last (some k) = some k

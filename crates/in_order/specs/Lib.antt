@@ -4,4 +4,7 @@ pub mod Whole
 pub mod Paths
 pub mod Rise
 pub mod Passing
+pub mod Walks
 pub mod Runs
+pub mod Known
+pub mod OneProof

@@ -1,12 +1,12 @@
 -- The stale keys of the lines that a pass has still to come to.
-use Rattle.std.specs.Prelude.{ℕ, Option, Some, None, ◌+◌, ◌≤◌, ◌≡◌, Bool, true, false, ◌||◌, length, drop}
+use Rattle.std.specs.Prelude.{ℕ, ◌+◌, ◌≤◌, ◌≡◌, Bool, true, false, ◌||◌, length, drop}
 use Rattle.std.proofs.Math.Path.{refl}
-use Rattle.std.proofs.Common.{ap, sym, ◌∙◌, arith}
+use Rattle.std.proofs.Common.{ap, ◌∙◌, arith}
 use mathlib.Core.List.{List, [], ◌∷◌, ◌++◌, map}
-use Rattle.std.proofs.Math.Option.{none}
+use Rattle.std.proofs.Math.Option.{Option, none, some}
 use Rattle.text_rules.specs.Bytes.{◌∈◌, among, total}
 use Rattle.text_rules.specs.BytesLaws.{All_in, All-map, total-map, total-most}
-use Rattle.text_rules.specs.Search.{bytes_before, part}
+use Rattle.text_rules.specs.Search.{bytes_before}
 use Rattle.text_rules.specs.Utf8.{is_utf8}
 use Rattle.gate_rules.specs.Baseline.{entries_of_lines, entry_key, entry_of}
 use Rattle.gate_rules.specs.Check.{listed}
@@ -14,12 +14,11 @@ use Rattle.gate_rules.proofs.EntryLaws.{keys_fit}
 use Rattle.gate_rules.specs.Functions.{key}
 use Rattle.gate_rules.specs.Gate.{gate}
 use Rattle.gate_rules.specs.Scan.{functions_of}
-use Rattle.baseline.specs.declared.Span.{Span}
 use Rattle.baseline.specs.Ordered.{Unfalling, keys-end, keys-line, keys_in}
-use Rattle.baseline.specs.Reads.{key_in, key_of_entry, line_at}
-use Rattle.key_lines.specs.Meets.{repeats}
+use Rattle.baseline.specs.Reads.{key_of_entry, line_at}
+use Rattle.key_lines.specs.Keys.{repeats}
 use Rattle.listed_keys.specs.KeyLines.{bytes_step, key_lines, line-length}
-use Rattle.in_order.specs.InOrder.{added_in, in_order_lem, in_order-end, in_order-line, in_order-most, in_order, last_after, latest}
+use Rattle.in_order.specs.InOrder.{added_by, in_order_lem, in_order-end, in_order-line, in_order-most, in_order, last_after}
 use Rattle.in_order.specs.StaleKeys.{entries-read, stale_in}
 
 -- ---- what a line adds
@@ -30,46 +29,36 @@ known-last a b e = rw e
 pub known-rest : (a b : Bool) → a ≡ false → b ≡ (a || b)
 known-rest a b e = rw e
 
-module _ (tree lines : List ℕ) (last here : Option Span) where
-  pub adds-nothing : here ≡ None → added_in tree lines last here ≡ []
-  adds-nothing q = ap (added_in tree lines last) q
+module _ (live : List (List ℕ)) (last : Option (List ℕ)) (k : List ℕ) where
+  abbrev known : Bool
+  known = repeats last k || among k live
 
-  module _ (k : Span) (q : here ≡ Some k) where
-    abbrev known : Bool
-    known = repeats (key_in lines last) (part k.from k.to lines) || among (part k.from k.to lines) (map key (functions_of gate tree))
+  pub adds_none : known ≡ true → added_by live last (some k) ≡ []
+  adds_none e = rw e
 
-    pub adds_none : known ≡ true → added_in tree lines last here ≡ []
-    adds_none e = ap (added_in tree lines last) q ∙ rw e
-
-    pub adds-key : known ≡ false → added_in tree lines last here ≡ part k.from k.to lines ∷ []
-    adds-key e = ap (added_in tree lines last) q ∙ rw e
+  pub adds-key : known ≡ false → added_by live last (some k) ≡ k ∷ []
+  adds-key e = rw e
 
 -- ---- line by line
 
 module _ (tree lines : List ℕ) where
-  abbrev live : List (List ℕ)
+  abbrev pub live : List (List ℕ)
   live = map key (functions_of gate tree)
 
   -- the stale keys from a place on, behind the last key in front of it
-  abbrev pub to_come : (last : Option Span) (from : ℕ) → List (List ℕ)
-  to_come last from = in_order live (key_in lines last) (keys_in (drop from lines))
+  abbrev pub to_come : (last : Option (List ℕ)) (from : ℕ) → List (List ℕ)
+  to_come last from = in_order live last (keys_in (drop from lines))
 
-  after : (last here : Option Span) → last_after (key_in lines last) (key_in lines here) ≡ key_in lines (latest last here)
-  after last (Some k) = refl
-  after last None = refl
+  pub come_line : (last here : Option (List ℕ)) (from end : ℕ) → end ≡ from + bytes_before 10 (drop from lines)
+      → here ≡ key_of_entry (entry_of (line_at lines from end)) → to_come last from ≡ added_by live last here ++ to_come (last_after last here) (end + 1)
+  come_line last here from end e q =
+      ap (in_order live last) (keys-line lines from end here e q) ∙ in_order-line live last here (keys_in (drop (end + 1) lines))
 
-  pub come_line : (last here key : Option Span) (from end : ℕ) → end ≡ from + bytes_before 10 (drop from lines)
-      → key_in lines here ≡ key_of_entry (entry_of (line_at lines from end)) → key ≡ latest last here → to_come last from ≡ added_in tree lines last here ++ to_come key (end + 1)
-  come_line last here key from end e q r =
-      ap (in_order live (key_in lines last)) (keys-line lines from end (key_in lines here) e q)
-      ∙ in_order-line live (key_in lines last) (key_in lines here) (keys_in (drop (end + 1) lines))
-      ∙ ap (λ l. added_in tree lines last here ++ in_order live l (keys_in (drop (end + 1) lines))) (after last here ∙ ap (key_in lines) (sym r))
-
-  pub come_end : (last : Option Span) (from : ℕ) → length lines ≤ from → to_come last from ≡ []
-  come_end last from h = ap (in_order live (key_in lines last)) (keys-end lines from h) ∙ in_order-end live (key_in lines last)
+  pub come_end : (last : Option (List ℕ)) (from : ℕ) → length lines ≤ from → to_come last from ≡ []
+  come_end last from h = ap (in_order live last) (keys-end lines from h) ∙ in_order-end live last
 
   -- where no key falls, all are the stale keys
-  pub come_all : Unfalling (keys_in lines) → to_come None 0 ≡ stale_in tree lines
+  pub come_all : Unfalling (keys_in lines) → to_come none 0 ≡ stale_in tree lines
   come_all u = in_order_lem (entries_of_lines lines) (functions_of gate tree) u
 
   -- ---- their number and their bytes are small, whether keys fall or not
@@ -83,10 +72,10 @@ module _ (tree lines : List ℕ) where
   count_most [] = omega arith
   count_most (k ∷ ks) = omega (arith, count_most ks)
 
-  pub come_small : is_utf8 lines ≡ true → (length (to_come None 0) ≤ length lines) × (length (key_lines (to_come None 0)) ≤ length lines)
+  pub come_small : is_utf8 lines ≡ true → (length (to_come none 0) ≤ length lines) × (length (key_lines (to_come none 0)) ≤ length lines)
   come_small u =
       let es = entries_of_lines lines in
-      let all : total (λ k. 3 + length k) (to_come None 0) ≤ length lines = omega (
+      let all : total (λ k. 3 + length k) (to_come none 0) ≤ length lines = omega (
         arith,
         in_order-most live (λ k. 3 + length k) none (map entry_key es),
         total-map (λ k. 3 + length k) entry_key es,
@@ -95,4 +84,4 @@ module _ (tree lines : List ℕ) where
         ap (total (λ e. 4 + length (entry_key e))) (entries-read lines u),
         keys_fit lines,
       ) in
-      (omega (arith, count_most (to_come None 0)), omega (arith, lines-total (to_come None 0)))
+      (omega (arith, count_most (to_come none 0)), omega (arith, lines-total (to_come none 0)))

@@ -11,7 +11,7 @@ use Rattle.text_rules.specs.Bytes.{among}
 use Rattle.text_rules.specs.BytesLaws.{whether}
 use Rattle.text_rules.specs.Search.{bytes_before}
 use Rattle.baseline.specs.Ordered.{keys_in}
-use Rattle.key_lines.specs.Meets.{repeats}
+use Rattle.key_lines.specs.Keys.{repeats}
 use Rattle.listed_keys.specs.Plain.{AllPlain, Begins, PlainOrNote, no-mark}
 use Rattle.in_order.specs.InOrder.{in_order}
 use Rattle.in_order.specs.StaleKeys.{stale_in}

@@ -1,3 +1,4 @@
+pub mod Keys
 pub mod Meets
 pub mod PlainKeys
 pub mod Next

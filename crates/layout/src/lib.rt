@@ -117,7 +117,8 @@ fn entry_of(tree: &[u8], k: usize) -> Entry
 // Kept: the path and the text of a file have functions of their own, here and above. The definitions have a word for each of the four numbers, and
 // one function for both would take a selector and state both contracts.
 
-// Kept: `laid` and `few` stand in each contract. A struct of a tree that is laid out would be asked of callers who have the bytes.
+// Kept: `laid` and `few` stand in each contract. A struct of a tree that is laid out would spare five clauses here, and each of the six functions that
+// call these holds the bytes and would have to make one.
 
 // Where the path of a file stands.
 pub fn path_span(tree: &[u8], k: usize) -> Range<usize>

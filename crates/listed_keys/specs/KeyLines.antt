@@ -83,6 +83,9 @@ written-length at next ks s t w h = ap length w.1 ∙ put-length at (key_lines k
 pub sizes-none : (ks : List (List ℕ)) → ks ≡ [] → (0 ≡ length ks) × (0 ≡ length (key_lines ks))
 sizes-none ks e = (omega (arith, ap length e), omega (arith, none_bytes ks e))
 
+pub sizes_key : (k : List ℕ) → (1 ≡ length (k ∷ [])) × (3 + length k ≡ length (key_lines (k ∷ [])))
+sizes_key k = (omega arith, sym (line-length k))
+
 pub sizes-one : (ks : List (List ℕ)) (s : List ℕ) (a b : ℕ) → (a ≤ b) × (b ≤ length s) → ks ≡ part a b s ∷ [] → (1 ≡ length ks) × (3 + (b - a) ≡ length (key_lines ks))
 sizes-one ks s a b h e =
     (omega (arith, ap length e), omega (arith, ap (λ js. length (key_lines js)) e, line-length (part a b s), part_length s a b h))

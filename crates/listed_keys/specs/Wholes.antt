@@ -1,7 +1,7 @@
 -- The keys of lines that are plain or start with #, copied as they are found.
 use Rattle.std.specs.Prelude.{ℕ, suc, ◌+◌, ◌-◌, ◌≤◌, ◌<◌, ◌≡◌, refl, ◌≢◌, true, not, eqb, ltb, length, take, drop, get_or, set}
 use Rattle.std.proofs.Math.Path.{ap, ap₂}
-use Rattle.std.proofs.Common.{sym, ◌∙◌, inl, inr, arith, length-append, length-drop, length-take, drop-drop, get_or-drop, eq-eqb, ne_eqb}
+use Rattle.std.proofs.Common.{subst, sym, ◌∙◌, inl, inr, arith, length-append, length-drop, length-take, drop-drop, get_or-drop, eq-eqb, ne_eqb}
 use mathlib.Core.List.{List, [], ◌∷◌, ◌++◌, append_assoc}
 use Rattle.std.proofs.Math.Option.{none, some}
 use Rattle.text_rules.specs.Bytes.{ascii, joined, put_at}
@@ -21,7 +21,7 @@ use Rattle.baseline.specs.Plain.{PlainLine, to-mark}
 use Rattle.baseline.specs.Reads.{key_of_entry, line_at}
 use Rattle.key_lines.specs.Meets.{PlainAt, part-byte}
 use Rattle.listed_keys.specs.KeyLines.{key_lines, sizes-one}
-use Rattle.listed_keys.specs.Plain.{Begins, begins-next, first_field, keys_at, line_end, no-mark, second_tab, tab_from}
+use Rattle.listed_keys.specs.Plain.{Begins, PlainHere, begins-next, first_field, keys_at, line_end, no-mark, second_tab, tab_from}
 
 -- ---- a field byte by byte
 
@@ -104,7 +104,7 @@ module _ (s : List ℕ) (from : ℕ) (h : from ≤ length s) (k : second_tab s f
 
 module _ (s : List ℕ) (from path name end : ℕ) (p : PlainLine s from path name end) where
   order : (from + path < name) × (name ≤ end) × (end < length s)
-  order = (p.front.goes_on, p.key_in.2, p.inside)
+  order = (p.front.goes_on, omega (arith, p.within), p.inside)
 
   -- where the name begins, and where it ends
   first-tab : from + path ≡ tab_from s from
@@ -144,12 +144,23 @@ module _ (s : List ℕ) (from path name end : ℕ) (p : PlainLine s from path na
   pub plain_size : 3 + (name - from) ≡ length (key_lines (part from name s ∷ []))
   plain_size = (sizes-one (part from name s ∷ []) s from name (omega (arith, order), omega (arith, order)) refl).1
 
+  -- it is plain by the places where its fields end
+  pub plain-here : PlainHere s from
+  plain-here =
+      let path-is : path ≡ tab_from s from - from = omega (arith, first-tab) in
+      subst (λ (n : ℕ). PlainLine s from n (second_tab s from) (line_end s from)) path-is
+      (subst (λ (n : ℕ). PlainLine s from path n (line_end s from)) second-tab (subst (PlainLine s from path name) p.ends p))
+
 -- the same of a line that is plain, where its end is known
-module _ (s : List ℕ) (from : ℕ) (p : PlainAt s from) (end : ℕ) (e : end ≡ from + bytes_before 10 (drop from s)) where
-  pub plain-count : length (keys_in (drop from s)) ≡ suc (length (keys_in (drop (end + 1) s)))
-  plain-count =
-      let same : p.end ≡ end = p.line.ends ∙ sym e in
-      ap length (plain-keys s from p.path p.name p.end p.line ∙ ap (λ (j : ℕ). part from p.name s ∷ keys_in (drop (j + 1) s)) same)
+module _ (s : List ℕ) (from : ℕ) (p : PlainAt s from) where
+  pub at-here : PlainHere s from
+  at-here = plain-here s from p.path p.name p.end p.line
+
+  module _ (end : ℕ) (e : end ≡ from + bytes_before 10 (drop from s)) where
+    pub plain-count : length (keys_in (drop from s)) ≡ suc (length (keys_in (drop (end + 1) s)))
+    plain-count =
+        let same : p.end ≡ end = p.line.ends ∙ sym e in
+        ap length (plain-keys s from p.path p.name p.end p.line ∙ ap (λ (j : ℕ). part from p.name s ∷ keys_in (drop (j + 1) s)) same)
 
 -- ---- a line that starts with #
 

@@ -1,5 +1,5 @@
-// Texts and numbers written straight into the output. Each method puts its own bytes from the writer's place on, moves the place behind them and changes no
-// other byte. Each length is known before anything is written, so a caller can refuse an output that is too short and leave it as it was.
+// Texts and numbers written straight into the output. Each method puts its own bytes from the writer's place on, moves the place behind them and
+// changes no other byte. Each length is known before anything is written, so a caller can refuse an output that is too short and leave it as it was.
 #![tactic(auto)]
 
 ghost use Rattle.std.specs.Prelude.{◌≡◌, ◌+◌, ◌<◌, ◌≤◌, max, eqb, length, replicate};
@@ -12,7 +12,7 @@ ghost use Rattle.listing.specs.Writes.{Room, Writes};
 ghost use Rattle.listing.specs.Texts.{located, located_length, regression_count};
 
 // How many lines there are, and the bytes of all of them.
-#[derive(Clone, Copy)]
+#[derive(Clone, Copy, Default)]
 pub struct Size {
     pub count: usize,
     pub bytes: usize,

@@ -6,19 +6,16 @@ use Rattle.text_rules.specs.BytesLaws.{true_false}
 use Rattle.gate_rules.specs.Functions.{key}
 use Rattle.gate_rules.specs.Gate.{gate}
 use Rattle.gate_rules.proofs.GateLaws.{gate_laws}
-use Rattle.gate_rules.specs.Scan.{Accepted, WellMade, functions_of}
+use Rattle.gate_rules.specs.Scan.{WellMade, functions_of}
 use Rattle.gate_rules.specs.Tree.{path_before}
 use Rattle.functions.specs.Shown.{Stand, no_fun}
+use Rattle.functions.proofs.Accepted.{accepted}
 use Rattle.live.specs.Live.{Only, other_path, path_of}
 use Rattle.live.specs.PathOrder.{all_there, before-front, behind-rest, path_itself}
 
 module _ (tree lent : List ℕ) (stand : Stand tree lent) (k : List ℕ) where
-  accepted : Accepted gate tree
-  unfolding gate
-  accepted = record { unrefused = stand.unrefused; few = stand.few }
-
   made : (i : ℕ) → i < length (functions_of gate tree) → WellMade (get_or (functions_of gate tree) i no_fun)
-  made = all_there WellMade (functions_of gate tree) (gate_laws.well_made tree accepted)
+  made = all_there WellMade (functions_of gate tree) (gate_laws.well_made tree (accepted tree lent stand))
 
   module _ (p : List ℕ) (e : p ≡ path_of k) (i : ℕ) (h : i < length (functions_of gate tree)) where
     other : (p ≡ (get_or (functions_of gate tree) i no_fun).path → ⊥) → same k (key (get_or (functions_of gate tree) i no_fun)) ≡ false

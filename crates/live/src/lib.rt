@@ -6,18 +6,30 @@ ghost use Rattle.text_rules.specs.Bytes.{among, same};
 ghost use Rattle.gate_rules.specs.Functions.{key};
 ghost use Rattle.gate_rules.specs.Gate.{gate};
 ghost use Rattle.gate_rules.specs.Scan.{functions_of};
+ghost use Rattle.baseline.specs.Reads.{key_bytes};
 ghost use Rattle.functions.specs.Shown.{shown};
 ghost use Rattle.live.specs.Live.{NoneHas, Only, path_of};
 
+use baseline::FunctionKey;
 use functions::{Function, Functions};
 use halving::boundary;
 use std::ops::Range;
+
+// The function's key.
+pub fn function_key(f: Function<'_>) -> FunctionKey<'_>
+    ensures { key_bytes result ≡ key (shown f.entry) }
+{
+    FunctionKey {
+        path: f.path,
+        name: f.name,
+    }
+}
 
 // Whether the function has the key.
 pub fn has_key(f: Function, bytes: &[u8]) -> bool
     ensures { result ≡ same bytes.now (key (shown f.entry)) }
 {
-    baseline::is_key(bytes, f.path, f.name)
+    function_key(f).is(bytes)
 }
 
 // Whether one of the functions with these numbers has the key.

@@ -1,6 +1,6 @@
 -- What is found in a line, and in the lines from a place on.
-use Prim.Native.Nat.{ℕ, ◌+◌, ◌≤◌}
-use mathlib.Core.Path.{◌≡◌, refl, ap, sym, ◌∙◌}
+use Prim.Native.Nat.{ℕ, ◌≤◌}
+use mathlib.Core.Path.{◌≡◌, refl, ap, ap₂, sym, ◌∙◌}
 use mathlib.Core.Bool.{true, false}
 use mathlib.Core.List.{List, ◌++◌}
 use mathlib.Core.Option.{Option as MathOption, none, some}
@@ -9,13 +9,14 @@ use Rattle.std.specs.Prelude.{Option, Some, None}
 use native.Mathlib.Omega.{arith}
 use lib.ListN.{length, take, drop}
 use Rattle.text_rules.specs.Bytes.{same}
-use Rattle.text_rules.specs.Search.{bytes_before, part}
 use Rattle.gate_rules.specs.Baseline.{Entry, entries_of_lines, entry_of, later_of, lookup}
 use Rattle.gate_rules.proofs.BaselineLaws.{later-none}
 use Rattle.baseline.specs.Fields.{own_key}
 use Rattle.lookup.specs.Halves.{later}
-use Rattle.baseline.specs.Reads.{Inside, accepted_by, entry_in, hit, line_at}
-use Rattle.baseline.specs.Steps.{entries-end, entries_next, entry_list}
+use Rattle.baseline.specs.Reads.{Inside, accepted_by, entry_in, hit}
+use Rattle.baseline.specs.Steps.{entries-end, entry_list}
+use Rattle.baseline.specs.LinesOf.{LineAt, line-entries}
+use Rattle.baseline.specs.declared.Line.{Line}
 use Rattle.baseline.specs.declared.Listed.{Listed}
 use Rattle.baseline.specs.declared.Recorded.{Recorded}
 
@@ -28,8 +29,11 @@ module _ (k line : List ℕ) (r : Option Listed) (inside : Inside line r) (is : 
     read : (t : Option Recorded) → accepted_by (hit k (entry_in line (Some l))) ≡ t → t ≡ accepted_by (hit k (entry_of line))
     read t h = sym h ∙ ap (λ o. accepted_by (hit k o)) (ap (entry_in line) (sym e) ∙ is)
 
-    pub line-hit : same (take l.name_end line) k ≡ true → Some (record { cyclomatic = l.cyclomatic; lines = l.lines }) ≡ accepted_by (hit k (entry_of line))
-    line-hit t = read _ (rw (ap (λ s. same s k) (own_key line l here) ∙ t))
+    pub line-hit : (m : Recorded) → (m.cyclomatic ≡ l.cyclomatic) × (m.lines ≡ l.lines) → same (take l.name_end line) k ≡ true → Some m ≡ accepted_by (hit k (entry_of line))
+    line-hit m q t = ap Some (ap₂ numbers q.0 q.1) ∙ read _ (rw (ap (λ s. same s k) (own_key line l here) ∙ t))
+      where
+        numbers : ℕ → ℕ → Recorded
+        numbers c n = record { cyclomatic = c; lines = n }
 
     pub line_miss : same (take l.name_end line) k ≡ false → None ≡ accepted_by (hit k (entry_of line))
     line_miss t = read _ (rw (ap (λ s. same s k) (own_key line l here) ∙ t))
@@ -47,11 +51,6 @@ none-past : (k s : List ℕ) (at : ℕ) → length s ≤ at → lookup k (entrie
 unfolding lookup
 none-past k s at h = ap (lookup k) (entries-end s at h)
 
-next-line : (k s : List ℕ) (from end : ℕ) → end ≡ from + bytes_before 10 (drop from s)
-    → lookup k (entries_of_lines (drop from s)) ≡ later_of (hit k (entry_of (line_at s from end))) (lookup k (entries_of_lines (drop (end + 1) s)))
-next-line k s from end e =
-    ap (lookup k) (entries_next s from end e) ∙ first-find k (entry_of (line_at s from end)) (entries_of_lines (drop (end + 1) s))
-
 -- of finds, the last wins
 later-two : (found : Option Recorded) (a b : MathOption Entry) → later found (accepted_by (later_of a b)) ≡ later (later found (accepted_by a)) (accepted_by b)
 later-two found a none = refl
@@ -66,12 +65,13 @@ or_later found None = refl
 abbrev pub found_from : Option Recorded → List ℕ → List ℕ → ℕ → Option Recorded
 found_from found k s at = later found (accepted_by (lookup k (entries_of_lines (drop at s))))
 
-pub found-next : (found : Option Recorded) (k s : List ℕ) (from end to : ℕ) → end ≡ from + bytes_before 10 (drop from s) → part from to s ≡ line_at s from end
-    → found_from (later found (accepted_by (hit k (entry_of (part from to s))))) k s (end + 1) ≡ found_from found k s from
-found-next found k s from end to e p =
-    ap (λ l. found_from (later found (accepted_by (hit k (entry_of l)))) k s (end + 1)) p
-    ∙ sym (later-two found (hit k (entry_of (line_at s from end))) (lookup k (entries_of_lines (drop (end + 1) s))))
-    ∙ ap (λ o. later found (accepted_by o)) (sym (next-line k s from end e))
+pub found-next : (found : Option Recorded) (k s : List ℕ) (from : ℕ) (l : Line) → LineAt s from l
+    → found_from (later found (accepted_by (hit k (entry_of l.bytes.now)))) k s l.next ≡ found_from found k s from
+found-next found k s from l h =
+    let line = entry_of l.bytes.now in
+    let rest = entries_of_lines (drop l.next s) in
+    sym (later-two found (hit k line) (lookup k rest))
+    ∙ ap (λ o. later found (accepted_by o)) (sym (ap (lookup k) (line-entries s from l h) ∙ first-find k line rest))
 
 pub found-start : (k s : List ℕ) → found_from None k s 0 ≡ accepted_by (lookup k (entries_of_lines s))
 found-start k s = unlisted (accepted_by (lookup k (entries_of_lines s)))

@@ -5,7 +5,7 @@ use mathlib.Core.Logic.{inl, inr}
 use mathlib.Core.Bool.{true, false}
 use mathlib.Core.List.{List, [], ◌∷◌, ◌++◌, append_assoc, map}
 use mathlib.Core.Option.{Option as MathOption, none, some}
-use Rattle.std.specs.Prelude.{Option, Some, None, is_some}
+use Rattle.std.specs.Prelude.{Option, None}
 use native.Mathlib.Omega.{arith}
 use lib.Dec.{eqb, ltb}
 use lib.ListN.{length, drop, get_or, length-drop}
@@ -14,14 +14,15 @@ use borrow.Author.Tests.{eq-eqb, ltb-false, ltb-true}
 use Rattle.text_rules.specs.ByteOrder.{before_orders}
 use Rattle.text_rules.specs.Bytes.{All, before, same}
 use Rattle.text_rules.specs.BytesLaws.{All-append, All-map, map-append, same_true, true_false, whether}
-use Rattle.text_rules.specs.Search.{bytes_before, part, run}
+use Rattle.text_rules.specs.Search.{bytes_before, run}
 use Rattle.gate_rules.specs.Baseline.{Entry, entries_of_lines, entry_key, entry_of, later_of, lookup}
-use Rattle.lookup.specs.Halves.{Below, Between, Leads, below, beyond, later}
-use Rattle.baseline.specs.Ordered.{Unfalling, keys-next, keys_in, one_key, unfalling_front, unfalling_rest}
-use Rattle.baseline.specs.Reads.{KeyInside, accepted_by, key_in, key_of_entry, line_at}
+use Rattle.lookup.specs.Halves.{Below, Between, Leads, LeadsBelow, below, beyond, later}
+use Rattle.baseline.specs.Ordered.{Unfalling, keys_in, one_key, unfalling_front, unfalling_rest}
+use Rattle.baseline.specs.Reads.{accepted_by, key_of_entry, line_at}
+use Rattle.baseline.specs.LinesOf.{LineAt, line-entries, line-keys}
+use Rattle.baseline.specs.declared.Line.{Line}
 use Rattle.baseline.specs.Steps.{entries_next, entry_list}
 use Rattle.baseline.specs.declared.Recorded.{Recorded}
-use Rattle.baseline.specs.declared.Span.{Span}
 use Rattle.lookup.proofs.Finds.{found-start, found_from}
 use Rattle.lookup.proofs.KeyOrder.{before-other}
 
@@ -66,27 +67,20 @@ pub between_none : (s : List ℕ) (from : ℕ) → Between s from from
 between_none s from = record { passed = []; cut = refl }
 
 -- the first entry from a place on: no line up to `at` has one
-module _ (s : List ℕ) (from at end to : ℕ) (c : entries_of_lines (drop from s) ≡ entries_of_lines (drop at s)) (e : end ≡ at + bytes_before 10 (drop at s)) (p : part at to s ≡ line_at s at end) where
-  line : entries_of_lines (drop from s) ≡ entry_list (entry_of (part at to s)) ++ entries_of_lines (drop (end + 1) s)
-  line = c ∙ entries_next s at end e ∙ ap (λ l. entry_list (entry_of l) ++ entries_of_lines (drop (end + 1) s)) (sym p)
+module _ (s : List ℕ) (from at : ℕ) (l : Line) (c : entries_of_lines (drop from s) ≡ entries_of_lines (drop at s)) (h : LineAt s at l) where
+  line : entries_of_lines (drop from s) ≡ entry_list (entry_of l.bytes.now) ++ entries_of_lines (drop l.next s)
+  line = c ∙ line-entries s at l h
 
-  pub lead_found : (key : Option Span) → KeyInside s key → key_in s key ≡ key_of_entry (entry_of (part at to s)) → Leads s from key (end + 1)
-  lead_found key i q = record { entry = entry_of (part at to s); cut = line; key-is = q; inside = i }
+  pub lead_found : (key : MathOption (List ℕ)) → key ≡ key_of_entry (entry_of l.bytes.now) → Leads s from key l.next
+  lead_found key q = record { entry = entry_of l.bytes.now; cut = line; key-is = q }
 
-  pub lead_next : none ≡ key_of_entry (entry_of (part at to s)) → entries_of_lines (drop from s) ≡ entries_of_lines (drop (end + 1) s)
-  lead_next q = line ∙ ap (λ o. entry_list o ++ entries_of_lines (drop (end + 1) s)) (absent (entry_of (part at to s)) q)
+  -- a line without a key is passed
+  pub lead_past : none ≡ key_of_entry (entry_of l.bytes.now) → entries_of_lines (drop from s) ≡ entries_of_lines (drop l.next s)
+  lead_past q = line ∙ ap (λ o. entry_list o ++ entries_of_lines (drop l.next s)) (absent (entry_of l.bytes.now) q)
     where
       absent : (o : MathOption Entry) → none ≡ key_of_entry o → o ≡ none
       absent none d = refl
       absent (some x) d = cc
-
-  -- a line without a key is passed
-  pub lead_past : (key : Option Span) → is_some key ≡ false → key_in s key ≡ key_of_entry (entry_of (part at to s)) → entries_of_lines (drop from s) ≡ entries_of_lines (drop (end + 1) s)
-  lead_past None h q = lead_next q
-  lead_past (Some k) h q = cc
-
-pub lead_none : (s : List ℕ) (from at : ℕ) → entries_of_lines (drop from s) ≡ entries_of_lines (drop at s) → Leads s from None at
-lead_none s from at c = record { entry = none; cut = c; key-is = refl; inside = tt }
 
 -- in front of a key that stands before k, every key does
 pub below-start : (s k : List ℕ) → Below s k 0
@@ -110,8 +104,8 @@ module _ (s k : List ℕ) (rise : Unfalling (keys_in s)) (lo from : ℕ) (b : Be
       through : (j i : List ℕ) → before i j ≡ false → before i k ≡ true → before j k ≡ true
       through j i d g = elim (before_orders.splits i j k g) [ inl x ↦ absurd (true_false (before i j) x d) | inr x ↦ x ]
 
-  pub below_next : (next : ℕ) (key : Option Span) → Leads s from key next → below (key_in s key) k ≡ true → Below s k next
-  below_next next key l h = past-entry next l.entry l.cut (sym (ap (λ o. below o k) l.key-is) ∙ h)
+  pub below_next : (next : ℕ) → LeadsBelow s from k next → Below s k next
+  below_next next l = past-entry next l.leads.entry l.leads.cut (sym (ap (λ o. below o k) l.leads.key-is) ∙ l.is_below)
 
 -- entries with other keys
 lookup_skip : (k : List ℕ) (ds es : List Entry) → All (λ j. same j k ≡ false) (map entry_key ds) → lookup k (ds ++ es) ≡ lookup k es
@@ -138,11 +132,11 @@ found_below s k at b =
 pub rest-rises : (s k : List ℕ) (at : ℕ) → Below s k at → Unfalling (keys_in s) → Unfalling (keys_in (drop at s))
 rest-rises s k at b u = unfalling_rest (map entry_key b.passed) (keys_in (drop at s)) (subst Unfalling (ap (map entry_key) b.cut ∙ map-append entry_key b.passed (entries_of_lines (drop at s))) u)
 
-module _ (s k : List ℕ) (from end to : ℕ) (e : end ≡ from + bytes_before 10 (drop from s)) (p : part from to s ≡ line_at s from end) (u : Unfalling (keys_in (drop from s))) where
-  pub next-rises : Unfalling (keys_in (drop (end + 1) s))
+module _ (s k : List ℕ) (from : ℕ) (l : Line) (h : LineAt s from l) (u : Unfalling (keys_in (drop from s))) where
+  pub next-rises : Unfalling (keys_in (drop l.next s))
   next-rises =
-      let o = key_of_entry (entry_of (part from to s)) in
-      unfalling_rest (one_key o) (keys_in (drop (end + 1) s)) (subst Unfalling (keys-next s from end to o e p refl) u)
+      let o = key_of_entry (entry_of l.bytes.now) in
+      unfalling_rest (one_key o) (keys_in (drop l.next s)) (subst Unfalling (line-keys s from l h o refl) u)
 
   -- behind a key that stands behind k there is none that is k
   others : (j : List ℕ) (js : List (List ℕ)) → Unfalling (j ∷ js) → before k j ≡ true → All (λ i. same i k ≡ false) (j ∷ js)
@@ -157,11 +151,11 @@ module _ (s k : List ℕ) (from end to : ℕ) (e : end ≡ from + bytes_before 1
       other : (i : List ℕ) → before i j ≡ false → i ≡ k → ⊥
       other i d q = true_false (before k j) h (ap (λ x. before x j) (sym q) ∙ d)
 
-  none_left : (o : MathOption (List ℕ)) → o ≡ key_of_entry (entry_of (part from to s)) → beyond o k ≡ true → lookup k (entries_of_lines (drop from s)) ≡ none
-  none_left none q h = absurd (true_false false h refl)
-  none_left (some j) q h =
-      let keys : keys_in (drop from s) ≡ j ∷ keys_in (drop (end + 1) s) = keys-next s from end to (some j) e p q in
-      lookup-none k (entries_of_lines (drop from s)) (subst (All (λ i. same i k ≡ false)) (sym keys) (others j (keys_in (drop (end + 1) s)) (subst Unfalling keys u) h))
+  none_left : (o : MathOption (List ℕ)) → o ≡ key_of_entry (entry_of l.bytes.now) → beyond o k ≡ true → lookup k (entries_of_lines (drop from s)) ≡ none
+  none_left none q b = absurd (true_false false b refl)
+  none_left (some j) q b =
+      let keys : keys_in (drop from s) ≡ j ∷ keys_in (drop l.next s) = line-keys s from l h (some j) q in
+      lookup-none k (entries_of_lines (drop from s)) (subst (All (λ i. same i k ≡ false)) (sym keys) (others j (keys_in (drop l.next s)) (subst Unfalling keys u) b))
 
-  pub found-beyond : (found : Option Recorded) (key : Option Span) → key_in s key ≡ key_of_entry (entry_of (part from to s)) → beyond (key_in s key) k ≡ true → found_from found k s from ≡ found
-  found-beyond found key q h = ap (λ o. later found (accepted_by o)) (none_left (key_in s key) q h)
+  pub found-beyond : (found : Option Recorded) → beyond (key_of_entry (entry_of l.bytes.now)) k ≡ true → found_from found k s from ≡ found
+  found-beyond found b = ap (λ o. later found (accepted_by o)) (none_left (key_of_entry (entry_of l.bytes.now)) refl b)

@@ -2,14 +2,14 @@
 use Prim.Native.Nat.{ℕ, suc, ◌+◌, ◌≤◌, ◌<◌}
 use mathlib.Core.Path.{◌≡◌, refl, ap, sym, ◌∙◌}
 use mathlib.Core.Logic.{inl, inr}
-use mathlib.Core.Bool.{true, false, not, ◌&&◌, ◌||◌}
+use mathlib.Core.Bool.{true, false, not, or-false, ◌&&◌, ◌||◌}
 use mathlib.Core.List.{List, [], ◌∷◌, ◌++◌}
 use native.Mathlib.Omega.{arith}
 use native.Mathlib.Numerals.{add-one}
 use lib.Dec.{eqb, ltb}
 use lib.ListN.{length, take, drop, get_or}
-use borrow.Author.Tests.{eq-eqb, le-ltb, lt-ltb, ltb-false, ltb-true, ne_eqb}
-use Rattle.text_rules.specs.ByteOrder.{before_orders, before-total}
+use borrow.Author.Tests.{eq-eqb, le-ltb, ltb-false, ltb-true, ne_eqb}
+use Rattle.text_rules.specs.ByteOrder.{before_itself, before_orders, before-total}
 use Rattle.text_rules.specs.Bytes.{before, same}
 use Rattle.text_rules.specs.BytesLaws.{same_refl, same_true, true_false, whether}
 
@@ -49,39 +49,32 @@ before-parts (x ∷ s) (y ∷ p) n h =
       ]
     ]
 
+-- the first part that differs decides
 module _ (s p n : List ℕ) (h : length p < length s) where
-  pub front-before : before (take (length p) s) p ≡ true → before s (p ++ 9 ∷ n) ≡ true
-  front-before e = before-parts s p n h ∙ rw e
+  pub front-differs : same (take (length p) s) p ≡ false → before s (p ++ 9 ∷ n) ≡ before (take (length p) s) p
+  front-differs f = before-parts s p n h ∙ rw f (or-false (before (take (length p) s) p))
 
-  module _ (e : before (take (length p) s) p ≡ false) where
-    pub front-other : same (take (length p) s) p ≡ false → before s (p ++ 9 ∷ n) ≡ false
-    front-other f = before-parts s p n h ∙ rw (e, f)
+  module _ (f : same (take (length p) s) p ≡ true) where
+    front-same : before (take (length p) s) p ≡ false
+    front-same = ap (λ t. before t p) (same_true (take (length p) s) p f) ∙ before_itself p
 
-    module _ (f : same (take (length p) s) p ≡ true) where
-      pub tab-below : get_or s (length p) 0 < 9 → before s (p ++ 9 ∷ n) ≡ true
-      tab-below k = before-parts s p n h ∙ rw (e, f, lt-ltb (get_or s (length p) 0) 9 k)
+    pub tab-differs : (get_or s (length p) 0 ≡ 9 → ⊥) → before s (p ++ 9 ∷ n) ≡ ltb (get_or s (length p) 0) 9
+    tab-differs d = before-parts s p n h ∙ rw (front-same, f, ne_eqb (get_or s (length p) 0) 9 d) (or-false (ltb (get_or s (length p) 0) 9))
 
-      pub tab-above : 9 ≤ get_or s (length p) 0 → (get_or s (length p) 0 ≡ 9 → ⊥) → before s (p ++ 9 ∷ n) ≡ false
-      tab-above k d = before-parts s p n h ∙ rw (e, f, le-ltb (get_or s (length p) 0) 9 k, ne_eqb (get_or s (length p) 0) 9 d)
-
-      pub name-before : get_or s (length p) 0 ≡ 9 → before s (p ++ 9 ∷ n) ≡ before (drop (length p + 1) s) n
-      name-before k = before-parts s p n h ∙ rw (e, f, k, add-one (length p))
-
--- no text stands before itself
-before_not : (s : List ℕ) → before s s ≡ false
-before_not s = elim (whether (before s s)) [ inl e ↦ absurd (before_orders.asym s s e e) | inr e ↦ e ]
+    pub name-before : get_or s (length p) 0 ≡ 9 → before s (p ++ 9 ∷ n) ≡ before (drop (length p + 1) s) n
+    name-before k = before-parts s p n h ∙ rw (front-same, f, k, add-one (length p))
 
 -- a text that stands before another is not the same
 pub before-other : (s t : List ℕ) → before s t ≡ true → same s t ≡ false
 before-other s t h =
     elim (whether (same s t)) [
-      | inl e ↦ absurd (true_false (before t t) (ap (λ r. before r t) (sym (same_true s t e)) ∙ h) (before_not t))
+      | inl e ↦ absurd (true_false (before t t) (ap (λ r. before r t) (sym (same_true s t e)) ∙ h) (before_itself t))
       | inr e ↦ e
     ]
 
 -- what is neither the same nor before stands behind
 pub same-behind : (s t : List ℕ) → same s t ≡ true → before t s ≡ false
-same-behind s t e = ap (λ r. before t r) (same_true s t e) ∙ before_not t
+same-behind s t e = ap (λ r. before t r) (same_true s t e) ∙ before_itself t
 
 pub other-behind : (s t : List ℕ) → same s t ≡ false → not (before s t) ≡ before t s
 other-behind s t d =

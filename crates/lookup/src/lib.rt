@@ -2,16 +2,15 @@
 #![tactic(auto)]
 
 ghost use Rattle.std.specs.Prelude.{◌≡◌, false, ◌≤◌, ◌<◌, length, get_or, IfSome};
-ghost use Rattle.std.proofs.Math.Option.{none};
+ghost use Rattle.std.proofs.Math.Option.{none, some};
 ghost use Rattle.text_rules.specs.Bytes.{before};
 ghost use Rattle.text_rules.specs.Classes.{lf};
 ghost use Rattle.gate_rules.specs.Baseline.{entries_of_lines, entry_of, lookup};
-ghost use Rattle.gate_rules.specs.Functions.{key_of};
-ghost use Rattle.lookup.specs.Halves.{Below, Between, Leads, below, beyond};
+ghost use Rattle.lookup.specs.Halves.{Below, Between, Leads, LeadsBelow, beyond};
 ghost use Rattle.baseline.specs.Ordered.{Unfalling, keys_in};
-ghost use Rattle.baseline.specs.Reads.{KeyInside, accepted_by, hit, key_in};
+ghost use Rattle.baseline.specs.Reads.{accepted_by, hit, key_bytes, key_of_entry};
 
-use baseline::{Recorded, Span};
+use baseline::{FunctionKey, Lines, Recorded};
 
 const TAB: u8 = b'\t';
 
@@ -19,87 +18,74 @@ const LF: u8 = b'\n';
 
 // ---- a line
 
-// Whether a line begins with path, tab and name and goes on. No other has an entry with that key, so most lines need not be read.
-fn begins_with(line: &[u8], path: &[u8], name: &[u8]) -> bool
-    ensures { result ≡ false → hit (key_of path.now name.now) (entry_of line.now) ≡ none }
+// Whether a line begins with the key sought and goes on. No other has an entry with that key, so most lines need not be read.
+fn begins_with(line: &[u8], sought: FunctionKey) -> bool
+    ensures { result ≡ false → hit (key_bytes sought.entry) (entry_of line.now) ≡ none }
 {
-    if line.len() <= path.len() {
+    let path = sought.path.len();
+    let name = sought.name.len();
+    if line.len() <= path {
         return false;
     }
-    if line.len() - path.len() - 1 <= name.len() {
+    if line.len() - path - 1 <= name {
         return false;
     }
-    let end = path.len() + 1 + name.len();
-    baseline::is_key(&line[..end], path, name)
+    let end = path + 1 + name;
+    sought.is(&line[..end])
 }
 
-// What a line accepts of the function with this path and name.
-fn in_line(line: &[u8], path: &[u8], name: &[u8]) -> Option<Recorded>
-    ensures { result ≡ accepted_by (hit (key_of path.now name.now) (entry_of line.now)) }
+// What a line accepts of the function sought.
+fn in_line(line: &[u8], sought: FunctionKey) -> Option<Recorded>
+    ensures { result ≡ accepted_by (hit (key_bytes sought.entry) (entry_of line.now)) }
 {
-    if !begins_with(line, path, name) {
+    if !begins_with(line, sought) {
         return None;
     }
     let e = baseline::entry(line)?;
-    if !baseline::is_key(&line[..e.name_end], path, name) {
+    if !sought.is(&line[..e.name_end]) {
         return None;
     }
-    Some(Recorded {
-        cyclomatic: e.cyclomatic,
-        lines: e.lines,
-    })
+    Some(e.into())
 }
 
 // ---- by halves
 
-// Whether the bytes stand before those of path, tab and name.
-fn key_before(key: &[u8], path: &[u8], name: &[u8]) -> bool
-    ensures { result ≡ before key.now (key_of path.now name.now) }
+// Whether the bytes stand before those of the key sought. The first of its path, tab and name that differs decides.
+fn key_before(key: &[u8], sought: FunctionKey) -> bool
+    ensures { result ≡ before key.now (key_bytes sought.entry) }
 {
-    let n = path.len();
+    let n = sought.path.len();
     if key.len() <= n {
-        return !order::before(path, key);
+        return !order::before(sought.path, key);
     }
-    if order::before(&key[..n], path) {
-        return true;
+    if !order::same_bytes(&key[..n], sought.path) {
+        return order::before(&key[..n], sought.path);
     }
-    if !order::same_bytes(&key[..n], path) {
-        return false;
+    if key[n] != TAB {
+        return key[n] < TAB;
     }
-    if key[n] < TAB {
-        return true;
-    }
-    if key[n] > TAB {
-        return false;
-    }
-    order::before(&key[n + 1..], name)
+    order::before(&key[n + 1..], sought.name)
 }
 
-// Whether the key of a line stands before that of path and name.
-// Kept: `is_some_and` is what this function and `is_beyond` share.
-fn is_below(baseline: &[u8], here: Option<Span>, path: &[u8], name: &[u8]) -> bool
-    requires { KeyInside baseline.now here }
-    ensures { result ≡ below (key_in baseline.now here) (key_of path.now name.now) }
+// Whether the bytes stand behind those of the key sought: they are not the same, and do not stand before them.
+fn key_behind(key: &[u8], sought: FunctionKey) -> bool
+    ensures { result ≡ before (key_bytes sought.entry) key.now }
 {
-    here.is_some_and(|k| key_before(k.of(baseline), path, name))
-}
-
-// Whether the bytes stand behind those of path, tab and name: they are not the same, and do not stand before them.
-fn key_behind(key: &[u8], path: &[u8], name: &[u8]) -> bool
-    ensures { result ≡ before (key_of path.now name.now) key.now }
-{
-    if baseline::is_key(key, path, name) {
+    if sought.is(key) {
         return false;
     }
-    !key_before(key, path, name)
+    !key_before(key, sought)
 }
 
-// Whether the key of a line stands behind that of path and name.
-fn is_beyond(baseline: &[u8], here: Option<Span>, path: &[u8], name: &[u8]) -> bool
-    requires { KeyInside baseline.now here }
-    ensures { result ≡ beyond (key_in baseline.now here) (key_of path.now name.now) }
+// Whether a line has a key, and it stands behind the one sought.
+fn is_beyond(line: &[u8], sought: FunctionKey) -> bool
+    ensures { result ≡ beyond (key_of_entry (entry_of line.now)) (key_bytes sought.entry) }
 {
-    here.is_some_and(|k| key_behind(k.of(baseline), path, name))
+    // Kept: tried `is_some_and` with a closure that holds `sought`; the proof didn't close.
+    match baseline::key(line) {
+        Some(key) => key_behind(key, sought),
+        None => false,
+    }
 }
 
 // The last LF.
@@ -121,80 +107,79 @@ fn line_start(s: &[u8], least: usize, at: usize) -> usize
 }
 
 // The first key of some lines, and where the line behind its own begins.
-#[derive(Drop)]
-struct First {
-    key: Option<Span>,
+#[derive(Clone, Copy)]
+struct First<'a> {
+    key: &'a [u8],
     next: usize,
 }
 
 // The first key of the lines that begin in a part of the baseline.
-fn first_key(baseline: &[u8], from: usize, end: usize) -> First
+fn first_key(baseline: &[u8], from: usize, end: usize) -> Option<First<'_>>
     requires { (from < end) × (end ≤ length baseline.now) }
-    ensures { (from < result.next) × Leads baseline.now from result.key result.next }
+    ensures { IfSome result (λ first. (from < first.next) × Leads baseline.now from (some first.key.now) first.next) }
 {
-    let mut at = from;
-    // Kept: the place of each line is wanted, which the library's split does not tell.
-    while at < end {
-        let stop = baseline::line_end(baseline, at);
-        let to = baseline::trimmed_end(baseline, at, stop);
-        let key = baseline::key_at(baseline, at, to);
-        at = stop + 1;
-        if key.is_some() {
-            return First { key, next: at };
+    for line in Lines::from_place(baseline, from) {
+        if end <= line.from {
+            return None;
+        }
+        if let Some(key) = baseline::key(line.bytes) {
+            return Some(First {
+                key,
+                next: line.next,
+            });
         }
     }
-    First {
-        key: None,
-        next: at,
-    }
+    None
 }
 
-// A line such that every key in front of it stands before that of path and name. The part in which it may begin is halved at each turn.
-fn first_place(baseline: &[u8], path: &[u8], name: &[u8]) -> usize
+// Where the line behind the first key of a part begins, if that key stands before the one sought.
+fn past_lower(baseline: &[u8], from: usize, end: usize, sought: FunctionKey) -> Option<usize>
+    requires { (from < end) × (end ≤ length baseline.now) }
+    ensures { IfSome result (λ next. (from < next) × LeadsBelow baseline.now from (key_bytes sought.entry) next) }
+{
+    let first = first_key(baseline, from, end)?;
+    let lower = key_before(first.key, sought);
+    lower.then_some(first.next)
+}
+
+// A line such that every key in front of it stands before the one sought. The part in which it may begin is halved at each turn.
+fn first_place(baseline: &[u8], sought: FunctionKey) -> usize
     requires { Unfalling (keys_in baseline.now) }
-    ensures { Below baseline.now (key_of path.now name.now) result }
+    ensures { Below baseline.now (key_bytes sought.entry) result }
 {
     let mut lo: usize = 0;
     let mut hi = baseline.len();
     // Kept: the part is cut where lines begin, so no range of numbers is halved.
     while lo < hi {
         let from = line_start(baseline, lo, lo + (hi - lo) / 2);
-        let first = first_key(baseline, from, hi);
-        let key = first.key;
-        if is_below(baseline, key, path, name) {
-            lo = first.next;
-        } else {
-            hi = from;
+        match past_lower(baseline, from, hi, sought) {
+            Some(next) => lo = next,
+            None => hi = from,
         }
     }
     lo
 }
 
-// What the lines from a place on accept. The first key that stands behind that of path and name ends the search.
-fn lookup_from(baseline: &[u8], path: &[u8], name: &[u8], place: usize) -> Option<Recorded>
-    requires { Unfalling (keys_in baseline.now) × Below baseline.now (key_of path.now name.now) place }
-    ensures { result ≡ accepted_by (lookup (key_of path.now name.now) (entries_of_lines baseline.now)) }
+// What the lines from a place on accept. The first key that stands behind the one sought ends the search.
+fn lookup_from(baseline: &[u8], sought: FunctionKey, place: usize) -> Option<Recorded>
+    requires { Unfalling (keys_in baseline.now) × Below baseline.now (key_bytes sought) place }
+    ensures { result ≡ accepted_by (lookup (key_bytes sought.entry) (entries_of_lines baseline.now)) }
 {
     let mut found = None;
-    let mut from = place;
-    // Kept: the place of each line is wanted, which the library's split does not tell.
-    while from < baseline.len() {
-        let end = baseline::line_end(baseline, from);
-        let to = baseline::trimmed_end(baseline, from, end);
-        if is_beyond(baseline, baseline::key_at(baseline, from, to), path, name) {
+    for line in Lines::from_place(baseline, place) {
+        if is_beyond(line.bytes, sought) {
             return found;
         }
-        found = in_line(&baseline[from..to], path, name).or(found);
-        from = end + 1;
+        found = in_line(line.bytes, sought).or(found);
     }
     found
 }
 
-// What a baseline whose keys never fall accepts of the function with this path and name. Of equal keys the last line wins.
-pub fn lookup_ordered(baseline: &[u8], path: &[u8], name: &[u8]) -> Option<Recorded>
+// What a baseline whose keys never fall accepts of the function with this key. Of equal keys the last line wins.
+pub fn lookup_ordered(baseline: &[u8], sought: FunctionKey) -> Option<Recorded>
     requires { Unfalling (keys_in baseline.now) }
-    ensures { result ≡ accepted_by (lookup (key_of path.now name.now) (entries_of_lines baseline.now)) }
+    ensures { result ≡ accepted_by (lookup (key_bytes sought.entry) (entries_of_lines baseline.now)) }
 {
-    let place = first_place(baseline, path, name);
-    lookup_from(baseline, path, name, place)
+    let place = first_place(baseline, sought);
+    lookup_from(baseline, sought, place)
 }

@@ -1,8 +1,8 @@
 -- A piece that decides is counted.
-use Prim.Native.Nat.{ℕ, suc, ◌+◌, ◌-◌}
-use Rattle.std.specs.Prelude.{◌≡◌, Bool, true, false, List, length, drop, take}
+use Prim.Native.Nat.{ℕ, suc, ◌+◌}
+use Rattle.std.specs.Prelude.{◌≡◌, Bool, true, false}
 use mir.Val.{bool_byte}
-use Rattle.std.proofs.Common.{◌≤◌, sym, ap, ◌∙◌, add-one, add-zero, arith}
+use Rattle.std.proofs.Common.{◌≤◌, add-one, add-zero, arith}
 use Rattle.text_rules.specs.Bytes.{if◌then◌otherwise◌}
 
 -- one more where a test passes

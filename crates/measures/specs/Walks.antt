@@ -7,12 +7,7 @@ use Rattle.source_rules.specs.Brackets.{partner}
 use Rattle.source_rules.specs.Measures.{cyclomatic_of, decides, lines_of, nesting_of, piece_length}
 use Rattle.measures.specs.declared.Body.{Body}
 use Rattle.measures.specs.declared.Piece.{Piece}
-use Rattle.measures.specs.declared.Shape.{Shape}
 use Rattle.measures.specs.declared.Walked.{Walked}
-
-pub record Shaped (r : Shape) (body : List ℕ) : Type 0 where
-  pub nesting-is : r.nesting ≡ nesting_of body
-  pub lines-is : r.lines ≡ lines_of body
 
 pub record PieceAt (body : List ℕ) (at : ℕ) (r : Piece) : Type 0 where
   pub end_is : r.end ≡ at + piece_length (drop at body)

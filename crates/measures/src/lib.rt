@@ -8,38 +8,12 @@ ghost use Rattle.text_rules.specs.Bytes.{among, ascii};
 ghost use Rattle.text_rules.specs.Classes.{brace_open, is_letter, is_word};
 ghost use Rattle.text_rules.specs.Search.{run};
 ghost use Rattle.source_rules.specs.Measures.{cyclomatic_of, is_pair};
-ghost use Rattle.measures.specs.Walks.{Measured, PieceAt, Shaped, WalkedFrom};
+ghost use Rattle.measures.specs.Walks.{Measured, PieceAt, WalkedFrom};
 
 use classes::Classes;
 
-#[derive(Clone, Copy)]
-struct Shape {
-    nesting: usize,
-    lines: usize,
-}
-
-// The nesting and the lines of a body. A brace that closes nothing leaves the depth at 0.
-fn shape_of(body: &[u8]) -> Shape
-    ensures { Shaped result body.now }
-{
-    let mut depth: usize = 0;
-    let mut nesting: usize = 0;
-    let mut lines = 1;
-    for b in body {
-        match *b {
-            b'{' => {
-                depth += 1;
-                nesting = nesting.max(depth);
-            }
-            b'}' => depth = depth.saturating_sub(1),
-            b'\n' => lines += 1,
-            _ => {}
-        }
-    }
-    Shape { nesting, lines }
-}
-
 // The place behind the word that stands at a place.
+// Kept: it is `end_while` of seek with a test, as `word_end` of search is. That one makes its table at each call, this one is lent it for a body.
 fn word_end(table: &Classes, s: &[u8], from: usize) -> usize
     requires { from ≤ length s.now }
     ensures end { result ≡ from + run is_word (drop from s.now) }
@@ -136,16 +110,29 @@ pub struct Walked {
     pub lines: usize,
 }
 
-// The measures of a body.
+// The measures of a body. A brace that closes nothing leaves the depth at 0.
 pub fn walk(body: &[u8]) -> Walked
     ensures { Measured result body.now }
 {
     let n = cyclomatic(body);
-    let s = shape_of(body);
+    let mut depth: usize = 0;
+    let mut nesting: usize = 0;
+    let mut lines = 1;
+    for b in body {
+        match *b {
+            b'{' => {
+                depth += 1;
+                nesting = nesting.max(depth);
+            }
+            b'}' => depth = depth.saturating_sub(1),
+            b'\n' => lines += 1,
+            _ => {}
+        }
+    }
     Walked {
         cyclomatic: n,
-        nesting: s.nesting,
-        lines: s.lines,
+        nesting,
+        lines,
     }
 }
 

@@ -2,50 +2,47 @@
 // same depths finds the same, and is not made again.
 #![tactic(auto)]
 
-ghost use Rattle.std.specs.Prelude.{◌≡◌, true, ◌≢◌, ℕ, ◌+◌, ◌≤◌, ◌<◌, length, get_or, MatchOption};
-ghost use Rattle.std.proofs.Math.Option.{Option};
+ghost use Rattle.std.specs.Prelude.{◌≡◌, true, ℕ, ◌+◌, ◌≤◌, ◌<◌, List, Option, length, MatchOption};
 ghost use Rattle.flat.specs.Body.{Counted, Reaches, body_from};
-ghost use Rattle.chunks.specs.Table.{Summed};
-ghost use Rattle.memo.specs.Memo.{Entry, Keeps, Known, Meets, Moves, Recalls, Sums, Tells, TellsPast, counts_at, number_for, Forgotten, number_at, set_entry};
+ghost use Rattle.chunks.specs.Passing.{PassesBody};
+ghost use Rattle.memo.specs.Memo.{AllCounted, Entry, Forgotten, Holds, Keeps, Known, Recalls, TellsPast};
 
-use chunks::Chunk;
+use chunks::{Chunk, TextSums};
 use flat::{Counts, Reached};
 
-// The searches that are kept. The array's first number is the place, its second tells which search is given up next; behind them stand for each
-// search its open angle brackets, the square brackets that it has seen opened and closed, and what it finds; and last, how far they go.
-// Kept: one array of fixed length, since it is lent by the caller and a call takes no memory beside what is lent.
+// The searches that are kept.
 const MOST: usize = 64;
 
-// Kept: a text and its sums are two parameters in this crate, as in `chunks`, to which both are handed on.
-
 // The chunk at a place, where it ends before another: what a search has counted behind it. None where the search may end in it.
-fn past_before(s: &[u8], t: &[u16; 36865], at: usize, to: usize, n: Counts) -> Option<Counts>
-    requires { (at ≤ to) × Counted n at × Summed s.now t.now }
-    ensures { TellsPast s.now at to n result }
+fn past_before(text: TextSums, at: usize, to: usize, n: Counts) -> Option<Counts>
+    requires { (at ≤ to) × Counted n at }
+    ensures { TellsPast text.entry.text.now at to n result }
 {
     if to - at < chunks::SIZE {
         return None;
     }
-    chunks::body_past(s, t, at, n)
+    text.body_past(at, n)
 }
 
 // The search for a body from one place up to another. Chunks are passed, or read up to the next.
-pub fn body_until(s: &[u8], t: &[u16; 36865], from: usize, to: usize, n: Counts) -> Reached
-    requires { (from ≤ to) × (to ≤ length s.now) × Counted n from × Summed s.now t.now }
-    ensures { Reaches s.now from to n result }
+// Kept: `far_end` of signatures goes by the same steps, but what it counts, how it passes a chunk or reads on, and what ends it differ. One function
+// for both would need a trait with two methods and their laws, and a type with an impl for each: more than the two loops.
+pub fn body_until(text: TextSums, from: usize, to: usize, n: Counts) -> Reached
+    requires { (from ≤ to) × (to ≤ length text.text.now) × Counted n from }
+    ensures { Reaches text.entry.text.now from to n result }
 {
     let mut at = from;
     let mut counts = n;
     // Kept: a step is a chunk, or the bytes up to the next one, so no `for` counts the steps.
     while at < to {
-        match past_before(s, t, at, to, counts) {
+        match past_before(text, at, to, counts) {
             Some(k) => {
                 at += chunks::SIZE;
                 counts = k;
             }
             None => {
                 let stop = chunks::edge_after(at, to);
-                match flat::body_before(s, at, stop, counts) {
+                match flat::body_before(text.text, at, stop, counts) {
                     Reached::Brace(p) => {
                         return Reached::Brace(p);
                     }
@@ -63,115 +60,19 @@ pub fn body_until(s: &[u8], t: &[u16; 36865], from: usize, to: usize, n: Counts)
     Reached::Further(counts)
 }
 
-// A search with an index, by its counts and its number: 0 tells nothing, 1 that it finds none, a higher one that it finds the brace two places below
-// it.
-fn put(f: &mut [usize; 259], i: usize, n: Counts, number: usize)
-    requires { (length f.old ≡ 259) × (i < 64) }
-    ensures { f.new ≡ set_entry f.old i n number }
-{
-    f[2 + i] = n.angle;
-    f[66 + i] = n.opened;
-    f[130 + i] = n.closed;
-    f[194 + i] = number;
-}
-
-// What the search with an index has counted.
-fn counts_of(f: &[usize; 259], i: usize) -> Counts
-    requires { (length f.now ≡ 259) × (i < 64) }
-    ensures { result ≡ counts_at f.now i }
-{
-    Counts {
-        angle: f[2 + i],
-        opened: f[66 + i],
-        closed: f[130 + i],
-    }
-}
-
-// No search is kept, and the place is another.
-pub fn forget(f: &mut [usize; 259], at: usize)
-    requires { length f.old ≡ 259 }
-    ensures { Forgotten at f.new }
-{
-    f[0] = at;
-    f[258] = at;
-    for i in 0..MOST {
-        f[194 + i] = 0;
-    }
-}
-
 // A search comes from one place to another: past all bytes at once where it cannot end in them.
-fn moved(s: &[u8], t: &[u16; 36865], from: usize, to: usize, c: Chunk, n: Counts) -> Reached
-    requires { (from ≤ to) × (to ≤ length s.now) × Counted n from × Sums s.now from to c × Summed s.now t.now }
-    ensures { Reaches s.now from to n result }
+#[tactic(auto, using(chunks::specs::PastLaws::counted_further, crate::specs::Memo::goes_past))]
+fn body_behind(text: TextSums, from: usize, to: usize, c: Chunk, n: Counts) -> Reached
+    requires { (from ≤ to)
+        × (to ≤ length text.text.now)
+        × Counted n from
+        × PassesBody text.text.now from to c }
+    ensures { Reaches text.entry.text.now from to n result }
 {
     if chunks::misses(c, n) {
         return Reached::Further(chunks::counts_past(c, n));
     }
-    body_until(s, t, from, to, n)
-}
-
-// The search with an index comes from one place to another, or is given up where it ends before that.
-fn move_on(
-    s: &[u8],
-    t: &[u16; 36865],
-    from: usize,
-    to: usize,
-    c: Chunk,
-    i: usize,
-    f: &mut [usize; 259],
-)
-    requires { (from ≤ to)
-        × (to ≤ length s.now)
-        × (length f.old ≡ 259)
-        × (i < 64)
-        × Entry s.now from (counts_at f.old i) (number_at f.old i)
-        × Sums s.now from to c
-        × Summed s.now t.now }
-    ensures { Moves s.now to i f.old f.new }
-{
-    let number = f[194 + i];
-    if number == 0 {
-        return;
-    }
-    match moved(s, t, from, to, c, counts_of(f, i)) {
-        Reached::Further(n) => {
-            put(f, i, n, number);
-        }
-        _ => {
-            f[194 + i] = 0;
-        }
-    }
-}
-
-// All searches come to a place that is at most a chunk further on.
-fn move_all(s: &[u8], t: &[u16; 36865], to: usize, f: &mut [usize; 259])
-    requires { (get_or f.old 0 0 ≤ to)
-        × (to ≤ get_or f.old 0 0 + 4096)
-        × (to ≤ length s.now)
-        × Recalls s.now f.old
-        × Summed s.now t.now }
-    ensures { (get_or f.new 0 0 ≡ to) × Recalls s.now f.new }
-{
-    let from = f[0];
-    let c = chunks::body_sum(s, from, to);
-    for i in 0..MOST {
-        move_on(s, t, from, to, c, i, f);
-    }
-    f[0] = to;
-}
-
-// All searches come to a place.
-fn advance(s: &[u8], t: &[u16; 36865], to: usize, f: &mut [usize; 259])
-    requires { (get_or f.old 0 0 ≤ to)
-        × (to ≤ length s.now)
-        × Recalls s.now f.old
-        × Summed s.now t.now }
-    ensures { (get_or f.new 0 0 ≡ to) × Recalls s.now f.new }
-{
-    let from = f[0];
-    for at in (from..to).step_by(chunks::SIZE) {
-        move_all(s, t, at.saturating_add(chunks::SIZE).min(to), f);
-    }
+    body_until(text, from, to, n)
 }
 
 // Whether a search has another's depths.
@@ -182,91 +83,158 @@ fn is_same(a: Counts, b: Counts) -> bool
     a.angle == b.angle && a.opened + b.closed == b.opened + a.closed
 }
 
-// The number of a search that is kept with the same depths.
-fn find(f: &[usize; 259], n: Counts) -> Option<usize>
-    requires { (length f.now ≡ 259)
-        × Counted n 9223372036854775807
-        × ((i : ℕ) → i < 64 → number_at f.now i ≢ 0 → Counted (counts_at f.now i) 9223372036854775807) }
-    ensures { MatchOption result (Unit {0}) (λ number. (number ≢ 0) × Meets f.now n number) }
-{
-    for i in 0..MOST {
-        let number = f[194 + i];
-        if number != 0 && is_same(counts_of(f, i), n) {
-            return Some(number);
+// A search: what it has counted at the place that is kept, and the brace that it finds, or none.
+#[derive(Clone, Copy)]
+struct Search {
+    counts: Counts,
+    found: Option<usize>,
+}
+
+impl Search {
+    // The search at a later place. None where it ends before that.
+    fn moved(self, text: TextSums, from: usize, to: usize, c: Chunk) -> Option<Search>
+        requires { (from ≤ to)
+            × (to ≤ length text.text.now)
+            × Holds text.text.now from self
+            × PassesBody text.text.now from to c }
+        ensures { Entry text.entry.text.now to result }
+    {
+        match body_behind(text, from, to, c, self.counts) {
+            Reached::Further(counts) => Some(Search { counts, ..self }),
+            _ => None,
         }
     }
-    None
 }
 
-// What the number of a search tells of what it finds.
-fn told(number: Option<usize>) -> Option<Option<usize>>
-    requires { MatchOption number (Unit {0}) (λ n. n ≢ 0) }
-    ensures { (found : Option ℕ) → MatchOption number (Unit {0}) (λ n. Tells n found) → Known result found }
-{
-    match number {
-        None => None,
-        Some(1) => Some(None),
-        Some(n) => Some(Some(n - 2)),
-    }
-}
-
-// What a search finds that has so much counted at a place, a brace or none; None where that is not known. The place is kept. Searches that are kept
-// for a place further on are given up, and all of them where none goes as far as the place: where searches do not overlap there is nothing to find,
-// and nothing is read twice.
-pub fn recall(
-    s: &[u8],
-    t: &[u16; 36865],
+// The searches that are kept, by what they have counted at the place `at`. One of them goes as far as `end`. `turn` tells which is given up next.
+#[derive(Drop)]
+pub struct Kept {
     at: usize,
-    n: Counts,
-    f: &mut [usize; 259],
-) -> Option<Option<usize>>
-    requires { (at ≤ length s.now) × Counted n at × Recalls s.now f.old × Summed s.now t.now }
-    ensures { Known result (body_from s.now at n)
-        × (get_or f.new 0 0 ≡ at)
-        × Recalls s.now f.new }
-{
-    if at < f[0] || f[258] <= at {
-        forget(f, at);
-        return None;
+    turn: usize,
+    end: usize,
+    searches: [Option<Search>; MOST],
+}
+
+impl Kept {
+    // No search is kept.
+    pub fn new() -> Kept
+        ensures { Forgotten 0 result }
+    {
+        Kept {
+            at: 0,
+            turn: 0,
+            end: 0,
+            searches: [None; MOST],
+        }
     }
-    advance(s, t, at, f);
-    told(find(f, n))
-}
 
-// Where the next search is kept: at an index that keeps none, or that of the search whose turn it is.
-fn free_index(f: &[usize; 259]) -> usize
-    requires { length f.now ≡ 259 }
-    ensures { result < 64 }
-{
-    let numbers = &f[194..194 + MOST];
-    numbers
-        .iter()
-        .position(|number| *number == 0)
-        .unwrap_or(f[1] % MOST)
-}
-
-// The number that tells what a search finds, for all places but the last two that a number can hold.
-fn number_of(found: Option<usize>) -> Option<usize>
-    ensures { MatchOption result (Unit {0}) (λ number. number ≡ number_for found) }
-{
-    match found {
-        Some(place) => place.checked_add(2),
-        None => Some(1),
+    // No search is kept any more, and the place is another.
+    pub fn forget(&mut self, at: usize)
+        ensures { Forgotten at self.new }
+    {
+        self.at = at;
+        self.end = at;
+        self.searches.fill(None);
     }
-}
 
-// A search is kept with what it finds, in place of another where all indices keep one. It goes as far as `end`: nothing rests on that but time.
-pub fn keep(f: &mut [usize; 259], n: Counts, found: Option<usize>, end: usize)
-    requires { length f.old ≡ 259 }
-    ensures { Keeps n (number_for found) f.old f.new }
-{
-    let Some(number) = number_of(found) else {
-        return;
-    };
-    let i = free_index(f);
-    f[1] = i + 1;
-    f[258] = f[258].max(end);
-    put(f, i, n, number);
+    // All searches come to a place that is at most a chunk further on. Those that end before it are given up.
+    #[tactic(auto, using(crate::specs::Moving::one_more, crate::specs::Moving::all_there))]
+    fn move_all(&mut self, text: TextSums, to: usize)
+        requires { (self.old.at ≤ to)
+            × (to ≤ self.old.at + 4096)
+            × (to ≤ length text.text.now)
+            × Recalls text.text.now self.old }
+        ensures { (self.new.at ≡ to) × Recalls text.entry.text.now self.new }
+    {
+        let from = self.at;
+        let c = chunks::body_sum(text.text, from, to);
+        for search in &mut self.searches {
+            if let Some(x) = *search {
+                *search = x.moved(text, from, to, c);
+            }
+        }
+        self.at = to;
+    }
+
+    // All searches come to a place.
+    fn advance(&mut self, text: TextSums, to: usize)
+        requires { (self.old.at ≤ to)
+            × (to ≤ length text.text.now)
+            × Recalls text.text.now self.old }
+        ensures { (self.new.at ≡ to) × Recalls text.entry.text.now self.new }
+    {
+        let from = self.at;
+        for at in (from..to).step_by(chunks::SIZE) {
+            self.move_all(text, at.saturating_add(chunks::SIZE).min(to));
+        }
+    }
+
+    // What a search finds that is kept with the same depths.
+    #[tactic(auto, using(crate::specs::Memo::same_finds))]
+    fn find(&self, n: Counts) -> Option<Option<usize>>
+        requires { Counted n 9223372036854775807 × AllCounted self.now }
+        ensures { (s : List ℕ) → Recalls s self.now → Known result (body_from s self.now.at n) }
+    {
+        for search in &self.searches {
+            if let Some(x) = *search {
+                if is_same(x.counts, n) {
+                    return Some(x.found);
+                }
+            }
+        }
+        None
+    }
+
+    // What a search finds that has so much counted at a place, a brace or none; None where that is not known. The place is kept. Searches that are
+    // kept for a place further on are given up, and all of them where none goes as far as the place: where searches do not overlap there is nothing
+    // to find, and nothing is read twice.
+    #[tactic(auto, using(chunks::specs::PastLaws::counted_further, crate::specs::Memo::all_counted))]
+    pub fn recall(&mut self, text: TextSums, at: usize, n: Counts) -> Option<Option<usize>>
+        requires { (at ≤ length text.text.now) × Counted n at × Recalls text.text.now self.old }
+        ensures { Known result (body_from text.entry.text.now at n)
+            × (self.new.at ≡ at)
+            × Recalls text.entry.text.now self.new }
+    {
+        if at < self.at || self.end <= at {
+            self.forget(at);
+            return None;
+        }
+        self.advance(text, at);
+        self.find(n)
+    }
+
+    // Where the next search is kept: at an index that keeps none, or that of the search whose turn it is.
+    fn free_index(&self) -> usize
+        ensures { result < 64 }
+    {
+        self.searches
+            .iter()
+            .position(|search| search.is_none())
+            .unwrap_or(self.turn % MOST)
+    }
+
+    // A search is kept with what it finds, in place of another where all indices keep one. It goes as far as `end`: nothing rests on that but time.
+    pub fn keep(&mut self, n: Counts, found: Option<usize>, end: usize)
+        ensures { Keeps n found self.old self.new }
+    {
+        let i = self.free_index();
+        self.turn = i + 1;
+        self.end = self.end.max(end);
+        self.searches[i] = Some(Search { counts: n, found });
+    }
+
+    // Where a search that begins at a place is looked up: at the place that is kept, if that is near.
+    pub fn mark_after(&self, from: usize, end: usize) -> usize
+        requires { from ≤ end }
+        ensures { (from ≤ result) × (result ≤ end) }
+    {
+        let mark = from.saturating_add(2 * STEP - from % STEP).min(end);
+        if self.at < mark || from.saturating_add(REACH).min(end) < self.at {
+            mark
+        } else {
+            self.at
+        }
+    }
 }
 
 // A search is looked up at the first place that is so many bytes further on and that their number divides: by then it has met others that go far.
@@ -274,17 +242,3 @@ const STEP: usize = 64;
 
 // The most bytes that a search reads up to the place that is kept.
 const REACH: usize = 512;
-
-// Where a search that begins at a place is looked up: at the place that is kept, if that is near.
-pub fn mark_after(f: &[usize; 259], from: usize, end: usize) -> usize
-    requires { from ≤ end }
-    ensures { (from ≤ result) × (result ≤ end) }
-{
-    let mark = from.saturating_add(2 * STEP - from % STEP).min(end);
-    let place = f[0];
-    if place < mark || from.saturating_add(REACH).min(end) < place {
-        mark
-    } else {
-        place
-    }
-}

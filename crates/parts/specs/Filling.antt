@@ -1,34 +1,33 @@
 -- One pass over a text tells the partners of the round brackets of a part of it. The part begins at a place `from`, and an index i stands for the bracket
 -- before the place from + i. Brackets whose partner is not met yet wait, the last one that was opened on top. The others are written down in the order
 -- in which they are closed, so that the places behind their partners rise.
-use Rattle.std.specs.Prelude.{ℕ, ◌+◌, ◌-◌, ◌≤◌, ◌<◌, ◌≡◌, refl, ◌≢◌, ◌⊎◌, List, eqb, length, drop, Some, get_or, set}
-use Rattle.std.proofs.Common.{ap, subst, sym, ◌∙◌, inl, inr, ⊎_elim, arith, length-set, get_or-set_other, get_or-set_same, eqb-true}
+use Rattle.std.specs.Prelude.{ℕ, zero, suc, ◌+◌, ◌-◌, ◌≤◌, ◌<◌, ◌≡◌, refl, ◌≢◌, ◌⊎◌, List, [], ◌∷◌, ◌++◌, length, drop, take, Some, get_or, set}
+use Rattle.std.proofs.Common.{ap, subst, sym, ◌∙◌, inl, inr, arith, length-append, length-take}
+use Rattle.std.proofs.lemmas.List.{get_or-take}
 use Rattle.std.proofs.Math.Option.{none, some}
-use Rattle.std.proofs.lemmas.Bool.{eqb-false}
-use Rattle.text_rules.specs.BytesLaws.{whether}
 use Rattle.text_rules.specs.Classes.{round_close, round_open}
 use Rattle.source_rules.specs.Finding.{body_at}
 use Rattle.source_rules.proofs.WalkSteps.{partner_close, partner-end, partner-found, partner_open, partner-other}
-use Rattle.windows.specs.Window.{Noted}
+use Rattle.windows.specs.Window.{Begins, Noted, noted_put}
+use Rattle.windows.specs.declared.Note.{Note}
+use Rattle.windows.specs.declared.Note.TheVariants.{Broken, Closed, Whole}
+use Rattle.windows.specs.declared.Window.{Window}
 use Rattle.chunks.specs.Passing.{TellsDepth}
 use Rattle.bodies.specs.Bodies.{Rising}
 use Rattle.bodies.specs.declared.Sought.{Sought}
 use Rattle.bodies.specs.declared.Sought.TheVariants.{Brace, Nothing}
-use Rattle.windows.specs.Notes.{first_of, second_of, set_pair}
-use Rattle.windows.specs.declared.Note.{Note}
-use Rattle.windows.specs.declared.Note.TheVariants.{Broken, Closed, Whole}
 use Rattle.parts.specs.declared.Pass.{Pass}
-use Rattle.parts.specs.Told.{Told, body_behind, never, no-brace, no_end, sought_from, told_zero}
+use Rattle.parts.specs.Told.{NoteTells, body_behind, no-brace, sought_from}
 
--- at a place `high` brackets wait: each is sought on with those above it and `inner` more open inside it
-pub record Waiting (s opens : List ℕ) (from many at high inner : ℕ) : Type 0 where
-  pub within : (k : ℕ) → k < high → get_or opens k 0 < many
-  pub sought : (k : ℕ) → k < high → sought_from s (from + get_or opens k 0) 0 ≡ sought_from s at (inner + (high - 1 - k))
+-- at a place brackets wait: each is sought on with those above it and `inner` more open inside it
+pub record Waiting (s opens : List ℕ) (from many at inner : ℕ) : Type 0 where
+  pub within : (k : ℕ) → k < length opens → get_or opens k 0 < many
+  pub sought : (k : ℕ) → k < length opens → sought_from s (from + get_or opens k 0) 0 ≡ sought_from s at (inner + (length opens - 1 - k))
 
 -- brackets without a partner
-pub record Unmet (s opens : List ℕ) (from many high : ℕ) : Type 0 where
-  pub within : (k : ℕ) → k < high → get_or opens k 0 < many
-  pub nowhere : (k : ℕ) → k < high → sought_from s (from + get_or opens k 0) 0 ≡ none
+pub record Unmet (s opens : List ℕ) (from many : ℕ) : Type 0 where
+  pub within : (k : ℕ) → k < length opens → get_or opens k 0 < many
+  pub nowhere : (k : ℕ) → k < length opens → sought_from s (from + get_or opens k 0) 0 ≡ none
 
 -- the bracket with an index is closed before a place
 pub record ClosedBefore (s : List ℕ) (from many index at : ℕ) : Type 0 where
@@ -37,127 +36,85 @@ pub record ClosedBefore (s : List ℕ) (from many index at : ℕ) : Type 0 where
   pub partner-there : sought_from s (from + index) 0 ≡ some (at - 1)
 
 -- the brackets that are closed up to a place, in this order: their indices, and the places behind their partners
-pub record Order (s owners starts : List ℕ) (from many at ended : ℕ) : Type 0 where
-  pub owners_room : length owners ≡ 2048
-  pub starts-room : length starts ≡ 2048
-  pub closed : (k : ℕ) → k < ended → ClosedBefore s from many (get_or owners k 0) (get_or starts k 0)
-  pub most : (k : ℕ) → k < ended → get_or starts k 0 ≤ at
-  pub rising : (j k : ℕ) → j < k → k < ended → get_or starts j 0 < get_or starts k 0
+pub record Order (s owners starts : List ℕ) (from many at : ℕ) : Type 0 where
+  pub both : length starts ≡ length owners
+  pub closed : (k : ℕ) → k < length owners → ClosedBefore s from many (get_or owners k 0) (get_or starts k 0)
+  pub most : (k : ℕ) → k < length owners → get_or starts k 0 ≤ at
+  pub rising : (j k : ℕ) → j < k → k < length owners → get_or starts j 0 < get_or starts k 0
 
--- how far the pass over the text has come
-pub record Passed (s : List ℕ) (from many : ℕ) (p : Pass) : Type 0 where
-  pub inside : p.at ≤ length s
-  pub few : p.high + p.ended ≤ many
-  pub inner-most : p.inner ≤ p.at
-  pub waiting : Waiting s p.opens from many p.at p.high p.inner
-  pub order : Order s p.owners p.starts from many p.at p.ended
+-- what the pass has met up to a place of the text
+pub record Passed (at : ℕ) (p : Pass) : Type 0 where
+  pub inside : at ≤ length p.part.text.text.now
+  pub few : length p.opens.items + length p.owners.items ≤ p.part.many
+  pub inner-most : p.inner ≤ at
+  pub waiting : Waiting p.part.text.text.now p.opens.items p.part.from p.part.many at p.inner
+  pub order : Order p.part.text.text.now p.owners.items p.starts.items p.part.from p.part.many at
+
+-- the brackets that wait have no partner
+abbrev pub AllUnmet : Pass → Type 0
+AllUnmet p = Unmet p.part.text.text.now p.opens.items p.part.from p.part.many
+
+-- the others are closed, anywhere in the text
+abbrev pub InOrder : Pass → Type 0
+InOrder p = Order p.part.text.text.now p.owners.items p.starts.items p.part.from p.part.many (length p.part.text.text.now)
 
 -- the same inside the part, where there is one bracket for each byte at most
-pub record Within (s : List ℕ) (from many : ℕ) (p : Pass) : Type 0 where
-  pub begun : from ≤ p.at
-  pub before : p.at + 1 ≤ from + many
-  pub few : p.high + p.ended + from ≤ p.at + 1
+pub record Within (at : ℕ) (p : Pass) : Type 0 where
+  pub begun : p.part.from ≤ at
+  pub before : at + 1 ≤ p.part.from + p.part.many
+  pub few : length p.opens.items + length p.owners.items + p.part.from ≤ at + 1
   pub none-inner : p.inner ≡ 0
-  pub opens_room : length p.opens ≡ 2048
-  pub waiting : Waiting s p.opens from many p.at p.high 0
-  pub order : Order s p.owners p.starts from many p.at p.ended
+  pub waiting : Waiting p.part.text.text.now p.opens.items p.part.from p.part.many at 0
+  pub order : Order p.part.text.text.now p.owners.items p.starts.items p.part.from p.part.many at
 
--- the pass at another place, with so many brackets open inside those that wait
-abbrev pub moved : Pass → (at inner : ℕ) → Pass
-moved p at inner = record { at = at; inner = inner; opens = p.opens; high = p.high; owners = p.owners; starts = p.starts; ended = p.ended }
-
--- with one more that waits
-abbrev pub opened : Pass → (index : ℕ) → Pass
-opened p index = record { at = p.at; inner = p.inner; opens = set p.opens p.high index; high = p.high + 1; owners = p.owners; starts = p.starts; ended = p.ended }
-
--- where the one on top is closed
-abbrev pub closed : Pass → Pass
-closed p =
-    record {
-      at = p.at;
-      inner = p.inner;
-      opens = p.opens;
-      high = p.high - 1;
-      owners = set p.owners p.ended (get_or p.opens (p.high - 1) 0);
-      starts = set p.starts p.ended p.at;
-      ended = p.ended + 1;
+-- the pass where the bracket on top is closed before a place
+abbrev pub closed : (at : ℕ) → Pass → Pass
+closed at p =
+    record p {
+      opens = record { items = take (length p.opens.items - 1) p.opens.items };
+      owners = record { items = p.owners.items ++ get_or p.opens.items (length p.opens.items - 1) 0 ∷ [] };
+      starts = record { items = p.starts.items ++ at ∷ [] };
     }
 
--- the numbers of the part are noted, and each tells what it must
-pub record Window (s : List ℕ) (from many : ℕ) (m : List ℕ) : Type 0 where
-  pub noted : Noted (Told s) m
-  pub begins : get_or m 0 0 ≡ from
-  pub places : get_or m 1 0 ≡ many
+-- the bracket on top is closed, if one waits
+abbrev pub Closes : (at : ℕ) → (p p' : Pass) → Type 0
+Closes at p p' = ((length p.opens.items ≡ 0) × (p' ≡ p)) ⊎ ((0 < length p.opens.items) × (p' ≡ closed at p))
 
--- the numbers of a bracket that is closed before a place, by what the search for a body that begins there finds
-pub data Closes (found : Sought) (start first second : ℕ) : Type 0 where
-  no_body : found ≡ Nothing → first ≡ never → Closes found start first second
-  not_known : first ≡ start → second ≡ 0 → Closes found start first second
-  body-there : (p : ℕ) → found ≡ Brace p → first ≡ start → second ≡ p + 1 → Closes found start first second
+-- what is noted of a part tells what it must
+pub record Telling (s : List ℕ) (from : ℕ) (w : Window) : Type 0 where
+  pub begins : Begins from w
+  pub tells : Noted (NoteTells s) w
 
--- what is noted of it
+-- what is noted of a bracket that is closed before a place, by what the search for a body that begins there finds
 pub data ClosesNote (found : Sought) (start : ℕ) (n : Note) : Type 0 where
   note_broken : found ≡ Nothing → n ≡ Broken → ClosesNote found start n
   note_closed : n ≡ Closed (start - 1) → ClosesNote found start n
   note_whole : (p : ℕ) → found ≡ Brace p → n ≡ Whole (start - 1) p → ClosesNote found start n
 
--- the numbers of the first places of the part are 0
-pub record Begun (from many done : ℕ) (m : List ℕ) : Type 0 where
-  pub room : length m ≡ 4099
-  pub begins : get_or m 0 0 ≡ from
-  pub places : get_or m 1 0 ≡ many
-  pub zero_each : (k : ℕ) → k < done → (get_or m (2 + k) 0 ≡ 0) × (get_or m (2050 + k) 0 ≡ 0)
+-- ---- one element more
 
--- ---- setting an element
+-- the elements before the last stay
+before-last : {A : Type 0} (l : List A) (v d : A) (k : ℕ) → k < length l → get_or (l ++ v ∷ []) k d ≡ get_or l k d
+before-last [] v d k h = absurd (omega arith)
+before-last (x ∷ l) v d zero h = refl
+before-last (x ∷ l) v d (suc k) h = before-last l v d k (omega arith)
 
--- what holds of the element that is set and of the others holds of each
-set-each : (P : (k v : ℕ) → Type 0) (l : List ℕ) (n v : ℕ) → n < length l → P n v → (k : ℕ) → (k ≢ n → P k (get_or l k 0)) → P k (get_or (set l n v) k 0)
-set-each P l n v h here k other =
-    elim (whether (eqb k n)) [
-      | inl a ↦ subst (λ j. P j (get_or (set l n v) j 0)) (sym (eqb-true k n a)) (subst (P n) (sym (get_or-set_same l n v 0 h)) here)
-      | inr a ↦ let q = eqb-false k n a in subst (P k) (sym (get_or-set_other l n k v 0 q)) (other q)
-    ]
+-- what holds of the last element and of those before it holds of each
+each-more : {A : Type 0} (P : (k : ℕ) → A → Type 0) (l : List A) (v d : A) → P (length l) v → (k : ℕ) → k < length (l ++ v ∷ []) → (k < length l → P k (get_or l k d)) → P k (get_or (l ++ v ∷ []) k d)
+each-more P [] v d here zero h other = here
+each-more P [] v d here (suc k) h other = absurd (omega arith)
+each-more P (x ∷ l) v d here zero h other = other (omega arith)
+each-more P (x ∷ l) v d here (suc k) h other = each-more (λ j. P (suc j)) l v d here k (omega arith) (λ m. other (omega arith))
 
 -- the same of two lists
-set_both : (P : (v w : ℕ) → Type 0) (l r : List ℕ) (n v w : ℕ) → n < length l → n < length r → P v w → (k : ℕ) → (k ≢ n → P (get_or l k 0) (get_or r k 0))
-    → P (get_or (set l n v) k 0) (get_or (set r n w) k 0)
-set_both P l r n v w h g here k other =
-    elim (whether (eqb k n)) [
-      | inl a ↦
-          let e = eqb-true k n a in
-          subst (λ j. P (get_or (set l n v) j 0) (get_or (set r n w) j 0)) (sym e)
-          (subst (λ x. P x (get_or (set r n w) n 0)) (sym (get_or-set_same l n v 0 h)) (subst (P v) (sym (get_or-set_same r n w 0 g)) here))
-      | inr a ↦
-          let q = eqb-false k n a in
-          subst (λ x. P x (get_or (set r n w) k 0)) (sym (get_or-set_other l n k v 0 q)) (subst (P (get_or l k 0)) (sym (get_or-set_other r n k w 0 q)) (other q))
-    ]
-
--- the two numbers of a place stand behind those that tell of the part
-pair-room : (m : List ℕ) (i v w : ℕ) → length (set_pair m i v w) ≡ length m
-pair-room m i v w = length-set (set m (2 + i) v) (2050 + i) w ∙ length-set m (2 + i) v
-
-pair-behind : (m : List ℕ) (i v w k : ℕ) → k < 2 → get_or (set_pair m i v w) k 0 ≡ get_or m k 0
-pair-behind m i v w k h = get_or-set_other (set m (2 + i) v) (2050 + i) k w 0 (λ q. omega arith) ∙ get_or-set_other m (2 + i) k v 0 (λ q. omega arith)
-
--- what holds of the numbers that are set and of those of the other places holds of each
-set_pair_lem : (P : (k v w : ℕ) → Type 0) (m : List ℕ) (i v w : ℕ) → length m ≡ 4099 → i < 2048 → P i v w → (k : ℕ) → k < 2048
-    → (k ≢ i → P k (get_or m (2 + k) 0) (get_or m (2050 + k) 0)) → P k (get_or (set_pair m i v w) (2 + k) 0) (get_or (set_pair m i v w) (2050 + k) 0)
-set_pair_lem P m i v w room h here k g other =
-    let r = set m (2 + i) v in
-    let inside : 2050 + i < length r = omega (arith, length-set m (2 + i) v, room) in
-    elim (whether (eqb k i)) [
-      | inl a ↦
-          let first : get_or (set_pair m i v w) (2 + i) 0 ≡ v = get_or-set_other r (2050 + i) (2 + i) w 0 (λ q. omega arith) ∙ get_or-set_same m (2 + i) v 0 (omega (arith, room)) in
-          subst (λ j. P j (get_or (set_pair m i v w) (2 + j) 0) (get_or (set_pair m i v w) (2050 + j) 0)) (sym (eqb-true k i a))
-          (subst (λ x. P i x (get_or (set_pair m i v w) (2050 + i) 0)) (sym first) (subst (P i v) (sym (get_or-set_same r (2050 + i) w 0 inside)) here))
-      | inr a ↦
-          let q = eqb-false k i a in
-          let first : get_or (set_pair m i v w) (2 + k) 0 ≡ get_or m (2 + k) 0 =
-          get_or-set_other r (2050 + i) (2 + k) w 0 (λ e. omega arith) ∙ get_or-set_other m (2 + i) (2 + k) v 0 (λ e. q (omega arith)) in
-          let second : get_or (set_pair m i v w) (2050 + k) 0 ≡ get_or m (2050 + k) 0 =
-          get_or-set_other r (2050 + i) (2050 + k) w 0 (λ e. q (omega arith)) ∙ get_or-set_other m (2 + i) (2050 + k) v 0 (λ e. omega arith) in
-          subst (λ x. P k x (get_or (set_pair m i v w) (2050 + k) 0)) (sym first) (subst (P k (get_or m (2 + k) 0)) (sym second) (other q))
-    ]
+both-more : (P : (v w : ℕ) → Type 0) (l r : List ℕ) (v w : ℕ) → length r ≡ length l → P v w → (k : ℕ) → k < length (l ++ v ∷ []) → (k < length l → P (get_or l k 0) (get_or r k 0))
+    → P (get_or (l ++ v ∷ []) k 0) (get_or (r ++ w ∷ []) k 0)
+both-more P [] [] v w e here zero h other = here
+both-more P [] [] v w e here (suc k) h other = absurd (omega arith)
+both-more P (x ∷ l) (y ∷ r) v w e here zero h other = other (omega arith)
+both-more P (x ∷ l) (y ∷ r) v w e here (suc k) h other = both-more P l r v w (omega (arith, e)) here k (omega arith) (λ m. other (omega arith))
+both-more P [] (y ∷ r) v w e here k h other = absurd (omega (arith, e))
+both-more P (x ∷ l) [] v w e here k h other = absurd (omega (arith, e))
 
 -- ---- the brackets that wait
 
@@ -165,47 +122,52 @@ differ : round_open ≢ round_close
 differ e = omega arith
 
 -- at the start of the part one waits
-pub waiting-first : (s opens : List ℕ) (from many : ℕ) → 1 ≤ many → get_or opens 0 0 ≡ 0 → Waiting s opens from many from 1 0
-waiting-first s opens from many h z =
+pub waiting-first : (s : List ℕ) (from many : ℕ) → 1 ≤ many → Waiting s (0 ∷ []) from many from 0
+waiting-first s from many h =
     record {
-      within = λ k l. let e : k ≡ 0 = omega arith in subst (λ j. get_or opens j 0 < many) (sym e) (omega (arith, z));
+      within = λ k l. let e : k ≡ 0 = omega arith in subst (λ j. get_or (0 ∷ []) j 0 < many) (sym e) (omega arith);
       sought = λ k l.
           let e : k ≡ 0 = omega arith in
-          let p : from + get_or opens 0 0 ≡ from = omega (arith, z) in
-          subst (λ j. sought_from s (from + get_or opens j 0) 0 ≡ sought_from s from (0 + (1 - 1 - j))) (sym e) (ap (λ q. sought_from s q 0) p);
+          let p : from + 0 ≡ from = omega arith in
+          subst (λ j. sought_from s (from + get_or (0 ∷ []) j 0) 0 ≡ sought_from s from (0 + (1 - 1 - j))) (sym e) (ap (λ q. sought_from s q 0) p);
     }
-
-one-above : (high k : ℕ) → k < high → 0 + (high - 1 - k) + 1 ≡ 0 + (high + 1 - 1 - k)
-one-above high k h = omega arith
 
 -- one more
-pub waiting_push : (s opens : List ℕ) (from many at high : ℕ) → Waiting s opens from many at high 0 → at < length s → get_or s at 0 ≡ round_open → high < length opens → from ≤ at
-    → at + 1 - from < many → Waiting s (set opens high (at + 1 - from)) from many (at + 1) (high + 1) 0
-waiting_push s opens from many at high w h e room i l =
+pub waiting_push : (s opens : List ℕ) (from many at : ℕ) → Waiting s opens from many at 0 → at < length s → get_or s at 0 ≡ round_open → from ≤ at
+    → at + 1 - from < many → Waiting s (opens ++ (at + 1 - from) ∷ []) from many (at + 1) 0
+waiting_push s opens from many at w h e i l =
+    let more : length (opens ++ (at + 1 - from) ∷ []) ≡ length opens + 1 = length-append opens ((at + 1 - from) ∷ []) in
     record {
-      within = λ k g. set-each (λ j v. v < many) opens high (at + 1 - from) room l k (λ n. w.within k (omega (arith, n)));
+      within = λ k g. each-more (λ j v. v < many) opens (at + 1 - from) 0 l k g (w.within k);
       sought = λ k g.
           let p : from + (at + 1 - from) ≡ at + 1 = omega arith in
-          let z : 0 ≡ 0 + (high + 1 - 1 - high) = omega arith in
-          let here : sought_from s (from + (at + 1 - from)) 0 ≡ sought_from s (at + 1) (0 + (high + 1 - 1 - high)) = ap (λ q. sought_from s q 0) p ∙ ap (sought_from s (at + 1)) z in
-          set-each (λ j v. sought_from s (from + v) 0 ≡ sought_from s (at + 1) (0 + (high + 1 - 1 - j))) opens high (at + 1 - from) room here k
-          (λ n.
-          let below : k < high = omega (arith, n) in
-          w.sought k below ∙ partner_open s at h round_open round_close (0 + (high - 1 - k)) differ e ∙ ap (sought_from s (at + 1)) (one-above high k below));
+          let z : 0 ≡ 0 + (length (opens ++ (at + 1 - from) ∷ []) - 1 - length opens) = omega (arith, more) in
+          each-more (λ j v. sought_from s (from + v) 0 ≡ sought_from s (at + 1) (0 + (length (opens ++ (at + 1 - from) ∷ []) - 1 - j))) opens (at + 1 - from) 0
+          (ap (λ q. sought_from s q 0) p ∙ ap (sought_from s (at + 1)) z) k g
+          (λ below.
+          let d : 0 + (length opens - 1 - k) + 1 ≡ 0 + (length (opens ++ (at + 1 - from) ∷ []) - 1 - k) = omega (arith, more, below) in
+          w.sought k below ∙ partner_open s at h round_open round_close (0 + (length opens - 1 - k)) differ e ∙ ap (sought_from s (at + 1)) d);
     }
 
-module _ (s opens : List ℕ) (from many at high inner : ℕ) (w : Waiting s opens from many at high inner) where
+module _ (s opens : List ℕ) (from many at inner : ℕ) (w : Waiting s opens from many at inner) where
+  abbrev high : ℕ
+  high = length opens
+
   -- at the end of the text none has a partner
-  pub waiting-end : length s ≤ at → Unmet s opens from many high
+  pub waiting-end : length s ≤ at → Unmet s opens from many
   waiting-end h = record { within = w.within; nowhere = λ k l. w.sought k l ∙ partner-end s at h round_open round_close (inner + (high - 1 - k)) }
+
+  -- behind a chunk in which none of them is closed
+  pub waiting-past : (d : ℕ) → TellsDepth s at inner (Some d) → Waiting s opens from many (at + 4096) d
+  waiting-past d e = record { within = w.within; sought = λ k l. w.sought k l ∙ e.2 (high - 1 - k) }
 
   -- one byte further
   module _ (h : at < length s) where
-    pub waiting-other : get_or s at 0 ≢ round_open → get_or s at 0 ≢ round_close → Waiting s opens from many (at + 1) high inner
+    pub waiting-other : get_or s at 0 ≢ round_open → get_or s at 0 ≢ round_close → Waiting s opens from many (at + 1) inner
     waiting-other o c =
         record { within = w.within; sought = λ k l. w.sought k l ∙ partner-other s at h round_open round_close (inner + (high - 1 - k)) o c }
 
-    pub waiting_open : get_or s at 0 ≡ round_open → Waiting s opens from many (at + 1) high (inner + 1)
+    pub waiting_open : get_or s at 0 ≡ round_open → Waiting s opens from many (at + 1) (inner + 1)
     waiting_open e =
         record {
           within = w.within;
@@ -215,7 +177,7 @@ module _ (s opens : List ℕ) (from many at high inner : ℕ) (w : Waiting s ope
         }
 
     module _ (e : get_or s at 0 ≡ round_close) where
-      pub waiting_close : 0 < inner → Waiting s opens from many (at + 1) high (inner - 1)
+      pub waiting_close : 0 < inner → Waiting s opens from many (at + 1) (inner - 1)
       waiting_close i =
           record {
             within = w.within;
@@ -228,170 +190,191 @@ module _ (s opens : List ℕ) (from many at high inner : ℕ) (w : Waiting s ope
       pub waiting-met : inner ≡ 0 → 0 < high → sought_from s (from + get_or opens (high - 1) 0) 0 ≡ some at
       waiting-met z i = w.sought (high - 1) (omega arith) ∙ partner-found s at h round_open round_close (inner + (high - 1 - (high - 1))) e (omega arith)
 
-      pub waiting_pop : inner ≡ 0 → Waiting s opens from many (at + 1) (high - 1) inner
+      pub waiting_pop : inner ≡ 0 → Waiting s (take (high - 1) opens) from many (at + 1) inner
       waiting_pop z =
+          let fewer : length (take (high - 1) opens) ≡ high - 1 = simp length-take (omega arith) in
           record {
-            within = λ k l. w.within k (omega arith);
+            within = λ k l. let g : k < high - 1 = omega (arith, fewer, l) in subst (λ v. v < many) (sym (get_or-take (high - 1) opens k 0 g)) (w.within k (omega arith));
             sought = λ k l.
-                let d : inner + (high - 1 - k) - 1 ≡ inner + (high - 1 - 1 - k) = omega arith in
-                w.sought k (omega arith) ∙ partner_close s at h round_open round_close (inner + (high - 1 - k)) differ e (λ q. omega arith) ∙ ap (sought_from s (at + 1)) d;
+                let g : k < high - 1 = omega (arith, fewer, l) in
+                let d : inner + (high - 1 - k) - 1 ≡ inner + (length (take (high - 1) opens) - 1 - k) = omega (arith, fewer, g) in
+                subst (λ v. sought_from s (from + v) 0 ≡ sought_from s (at + 1) (inner + (length (take (high - 1) opens) - 1 - k))) (sym (get_or-take (high - 1) opens k 0 g))
+                (w.sought k (omega arith) ∙ partner_close s at h round_open round_close (inner + (high - 1 - k)) differ e (λ q. omega arith) ∙ ap (sought_from s (at + 1)) d);
           }
 
--- behind a chunk in which none of them is closed
-waiting-past : (s opens : List ℕ) (from many at high inner d : ℕ) → Waiting s opens from many at high inner → TellsDepth s at inner (Some d)
-    → Waiting s opens from many (at + 4096) high d
-waiting-past s opens from many at high inner d w e = record { within = w.within; sought = λ k l. w.sought k l ∙ e.2 (high - 1 - k) }
+      -- where none waits none does there
+      pub waiting_stray : high ≡ 0 → Waiting s opens from many (at + 1) inner
+      waiting_stray z = record { within = w.within; sought = λ k l. absurd (omega (arith, z, l)) }
 
 -- ---- the brackets that are closed
 
-pub order-none : (s owners starts : List ℕ) (from many at : ℕ) → length owners ≡ 2048 → length starts ≡ 2048 → Order s owners starts from many at 0
-order-none s owners starts from many at h g =
-    record { owners_room = h; starts-room = g; closed = λ k l. absurd (omega arith); most = λ k l. absurd (omega arith); rising = λ j k l m. absurd (omega arith) }
+pub order-none : (s : List ℕ) (from many at : ℕ) → Order s [] [] from many at
+order-none s from many at =
+    record { both = refl; closed = λ k l. absurd (omega arith); most = λ k l. absurd (omega arith); rising = λ j k l m. absurd (omega arith) }
 
--- further on they are the same
-pub order-later : (s owners starts : List ℕ) (from many at to ended : ℕ) → Order s owners starts from many at ended → at ≤ to → Order s owners starts from many to ended
-order-later s owners starts from many at to ended o h =
-    record {
-      owners_room = o.owners_room;
-      starts-room = o.starts-room;
-      closed = o.closed;
-      most = λ k l. omega (arith, o.most k l, h);
-      rising = o.rising;
-    }
+module _ (s owners starts : List ℕ) (from many at : ℕ) (o : Order s owners starts from many at) where
+  -- further on they are the same
+  pub order-later : (to : ℕ) → at ≤ to → Order s owners starts from many to
+  order-later to h = record { both = o.both; closed = o.closed; most = λ k l. omega (arith, o.most k l, h); rising = o.rising }
 
--- one more is closed
-order-next : (s owners starts : List ℕ) (from many at ended index : ℕ) → Order s owners starts from many at ended → ended < 2048 → ClosedBefore s from many index (at + 1)
-    → Order s (set owners ended index) (set starts ended (at + 1)) from many (at + 1) (ended + 1)
-order-next s owners starts from many at ended index o h c =
-    let there : ended < length owners = omega (arith, o.owners_room) in
-    let here : ended < length starts = omega (arith, o.starts-room) in
-    record {
-      owners_room = length-set owners ended index ∙ o.owners_room;
-      starts-room = length-set starts ended (at + 1) ∙ o.starts-room;
-      closed = λ k l. set_both (ClosedBefore s from many) owners starts ended index (at + 1) there here c k (λ n. o.closed k (omega (arith, n)));
-      most = λ k l. set-each (λ i v. v ≤ at + 1) starts ended (at + 1) here (omega arith) k (λ n. omega (arith, o.most k (omega (arith, n))));
-      rising = λ j k l m.
-          let same : get_or (set starts ended (at + 1)) j 0 ≡ get_or starts j 0 = get_or-set_other starts ended j (at + 1) 0 (λ q. omega arith) in
-          let old : get_or starts j 0 ≤ at = o.most j (omega arith) in
-          set-each (λ i v. get_or (set starts ended (at + 1)) j 0 < v) starts ended (at + 1) here (omega (arith, same, old)) k
-          (λ n. omega (arith, same, o.rising j k l (omega (arith, n))));
-    }
+  -- one more is closed
+  order-next : (index : ℕ) → ClosedBefore s from many index (at + 1) → Order s (owners ++ index ∷ []) (starts ++ (at + 1) ∷ []) from many (at + 1)
+  order-next index c =
+      let more : length (owners ++ index ∷ []) ≡ length owners + 1 = length-append owners (index ∷ []) in
+      let same : length (starts ++ (at + 1) ∷ []) ≡ length (owners ++ index ∷ []) = omega (arith, more, length-append starts ((at + 1) ∷ []), o.both) in
+      record {
+        both = same;
+        closed = λ k l. both-more (ClosedBefore s from many) owners starts index (at + 1) o.both c k l (o.closed k);
+        most = λ k l. each-more (λ i v. v ≤ at + 1) starts (at + 1) 0 (omega arith) k (omega (arith, same, l)) (λ g. omega (arith, o.most k (omega (arith, o.both, g))));
+        rising = λ j k l m.
+            let below : j < length starts = omega (arith, more, o.both, l, m) in
+            let same-j : get_or (starts ++ (at + 1) ∷ []) j 0 ≡ get_or starts j 0 = before-last starts (at + 1) 0 j below in
+            each-more (λ i v. get_or (starts ++ (at + 1) ∷ []) j 0 < v) starts (at + 1) 0 (omega (arith, same-j, o.most j (omega (arith, below, o.both)))) k (omega (arith, same, m))
+            (λ g. omega (arith, same-j, o.rising j k l (omega (arith, g, o.both))));
+      }
 
--- the bracket on top where its partner is met
-pub order-met : (s opens owners starts : List ℕ) (from many at high inner ended : ℕ) → Waiting s opens from many at high inner → Order s owners starts from many at ended
-    → at < length s → get_or s at 0 ≡ round_close → inner ≡ 0 → 0 < high → ended < 2048
-    → Order s (set owners ended (get_or opens (high - 1) 0)) (set starts ended (at + 1)) from many (at + 1) (ended + 1)
-order-met s opens owners starts from many at high inner ended w o h e z i room =
-    let back : at ≡ at + 1 - 1 = omega arith in
-    order-next s owners starts from many at ended (get_or opens (high - 1) 0) o room
-    (record { within = w.within (high - 1) (omega arith); least = omega arith; partner-there = waiting-met s opens from many at high inner w h e z i ∙ ap some back })
+  -- the bracket on top where its partner is met
+  pub order-met : (opens : List ℕ) (inner : ℕ) → Waiting s opens from many at inner → at < length s → get_or s at 0 ≡ round_close → inner ≡ 0 → 0 < length opens
+      → Order s (owners ++ get_or opens (length opens - 1) 0 ∷ []) (starts ++ (at + 1) ∷ []) from many (at + 1)
+  order-met opens inner w h e z i =
+      let back : at ≡ at + 1 - 1 = omega arith in
+      order-next (get_or opens (length opens - 1) 0)
+      (record { within = w.within (length opens - 1) (omega arith); least = omega arith; partner-there = waiting-met s opens from many at inner w h e z i ∙ ap some back })
 
 -- ---- the pass
 
--- further on, where the same brackets wait
-passed_on : {s : List ℕ} {from many : ℕ} {p : Pass} {to d : ℕ} → Passed s from many p → p.at ≤ to → to ≤ length s → d ≤ to → Waiting s p.opens from many to p.high d
-    → Passed s from many (moved p to d)
-passed_on {s} {from} {many} {p} {to} {d} w h i l v =
-    record { inside = i; few = w.few; inner-most = l; waiting = v; order = order-later s p.owners p.starts from many p.at to p.ended w.order h }
+-- where the bracket on top is closed as many are told
+closed-few : (p : Pass) (at : ℕ) → 0 < length p.opens.items → length (closed at p).opens.items + length (closed at p).owners.items ≡ length p.opens.items + length p.owners.items
+closed-few p at h =
+    let fewer : length (take (length p.opens.items - 1) p.opens.items) ≡ length p.opens.items - 1 = simp length-take (omega arith) in
+    omega (arith, fewer, h, length-append p.owners.items (get_or p.opens.items (length p.opens.items - 1) 0 ∷ []))
 
--- one byte further
-module _ (s : List ℕ) (from many : ℕ) (p : Pass) (w : Passed s from many p) (h : p.at < length s) where
-  pub passed_other : get_or s p.at 0 ≢ round_open → get_or s p.at 0 ≢ round_close → Passed s from many (moved p (p.at + 1) p.inner)
-  passed_other o c = passed_on w (omega arith) (omega arith) (omega (arith, w.inner-most)) (waiting-other s p.opens from many p.at p.high p.inner w.waiting h o c)
+-- one byte further behind the part
+module _ (at : ℕ) (p : Pass) (w : Passed at p) (h : at < length p.part.text.text.now) where
+  abbrev s : List ℕ
+  s = p.part.text.text.now
 
-  pub passed_open : get_or s p.at 0 ≡ round_open → Passed s from many (moved p (p.at + 1) (p.inner + 1))
-  passed_open e = passed_on w (omega arith) (omega arith) (omega (arith, w.inner-most)) (waiting_open s p.opens from many p.at p.high p.inner w.waiting h e)
+  later : (to : ℕ) → at ≤ to → Order s p.owners.items p.starts.items p.part.from p.part.many to
+  later to l = order-later s p.owners.items p.starts.items p.part.from p.part.many at w.order to l
 
-  pub passed_close : get_or s p.at 0 ≡ round_close → 0 < p.inner → Passed s from many (moved p (p.at + 1) (p.inner - 1))
-  passed_close e i = passed_on w (omega arith) (omega arith) (omega (arith, w.inner-most)) (waiting_close s p.opens from many p.at p.high p.inner w.waiting h e i)
-
-  -- the one on top has its partner
-  pub passed_met : get_or s p.at 0 ≡ round_close → p.inner ≡ 0 → 0 < p.high → many ≤ 2048 → Passed s from many (closed (moved p (p.at + 1) p.inner))
-  passed_met e z i room =
+  pub passed_other : get_or s at 0 ≢ round_open → get_or s at 0 ≢ round_close → Passed (at + 1) p
+  passed_other o c =
       record {
         inside = omega arith;
-        few = omega (arith, w.few);
-        inner-most = omega arith;
-        waiting = waiting_pop s p.opens from many p.at p.high p.inner w.waiting h e z;
-        order = order-met s p.opens p.owners p.starts from many p.at p.high p.inner p.ended w.waiting w.order h e z i (omega (arith, w.few));
+        few = w.few;
+        inner-most = omega (arith, w.inner-most);
+        waiting = waiting-other s p.opens.items p.part.from p.part.many at p.inner w.waiting h o c;
+        order = later (at + 1) (omega arith);
       }
+
+  pub passed_open : get_or s at 0 ≡ round_open → Passed (at + 1) (record p { inner = p.inner + 1 })
+  passed_open e =
+      record {
+        inside = omega arith;
+        few = w.few;
+        inner-most = omega (arith, w.inner-most);
+        waiting = waiting_open s p.opens.items p.part.from p.part.many at p.inner w.waiting h e;
+        order = later (at + 1) (omega arith);
+      }
+
+  pub passed_close : get_or s at 0 ≡ round_close → 0 < p.inner → Passed (at + 1) (record p { inner = p.inner - 1 })
+  passed_close e i =
+      record {
+        inside = omega arith;
+        few = w.few;
+        inner-most = omega (arith, w.inner-most);
+        waiting = waiting_close s p.opens.items p.part.from p.part.many at p.inner w.waiting h e i;
+        order = later (at + 1) (omega arith);
+      }
+
+  -- the one on top has its partner
+  pub passed_met : get_or s at 0 ≡ round_close → p.inner ≡ 0 → (p' : Pass) → Closes (at + 1) p p' → Passed (at + 1) p'
+  passed_met e z p' (inl c) =
+      subst (Passed (at + 1)) (sym c.1)
+      (record {
+        inside = omega arith;
+        few = w.few;
+        inner-most = omega (arith, w.inner-most);
+        waiting = waiting_stray s p.opens.items p.part.from p.part.many at p.inner w.waiting h e c.0;
+        order = later (at + 1) (omega arith);
+      })
+  passed_met e z p' (inr c) =
+      subst (Passed (at + 1)) (sym c.1)
+      (record {
+        inside = omega arith;
+        few = omega (arith, w.few, closed-few p (at + 1) c.0);
+        inner-most = omega (arith, w.inner-most);
+        waiting = waiting_pop s p.opens.items p.part.from p.part.many at p.inner w.waiting h e z;
+        order = order-met s p.owners.items p.starts.items p.part.from p.part.many at w.order p.opens.items p.inner w.waiting h e z c.0;
+      })
 
 -- a chunk further
-pub passed_chunk : (s : List ℕ) (from many : ℕ) (p : Pass) (d : ℕ) → Passed s from many p → TellsDepth s p.at p.inner (Some d) → Passed s from many (moved p (p.at + 4096) d)
-passed_chunk s from many p d w e = passed_on w (omega arith) e.0 e.1 (waiting-past s p.opens from many p.at p.high p.inner d w.waiting e)
-
--- inside the part, at its first bracket
-pub within-first : (s : List ℕ) (from many : ℕ) (p : Pass) → 1 ≤ many → p.at ≡ from → p.inner ≡ 0 → p.high ≡ 1 → p.ended ≡ 0 → length p.opens ≡ 2048 → length p.owners ≡ 2048 → length p.starts ≡ 2048 → get_or p.opens 0 0 ≡ 0
-    → Within s from many p
-within-first s from many p h at inner high ended o w t z =
+pub passed_chunk : (at : ℕ) (p : Pass) (d : ℕ) → Passed at p → TellsDepth p.part.text.text.now at p.inner (Some d) → Passed (at + 4096) (record p { inner = d })
+passed_chunk at p d w e =
     record {
-      begun = omega (arith, at);
-      before = omega (arith, at);
-      few = omega (arith, at, high, ended);
-      none-inner = inner;
-      opens_room = o;
-      waiting = rw (at, high) (waiting-first s p.opens from many h z);
-      order = rw (at, ended) (order-none s p.owners p.starts from many from w t);
+      inside = e.0;
+      few = w.few;
+      inner-most = e.1;
+      waiting = waiting-past p.part.text.text.now p.opens.items p.part.from p.part.many at p.inner w.waiting d e;
+      order = order-later p.part.text.text.now p.owners.items p.starts.items p.part.from p.part.many at w.order (at + 4096) (omega arith);
     }
 
--- one byte further inside it
-module _ (s : List ℕ) (from many : ℕ) (p : Pass) (w : Within s from many p) (h : p.at < length s) (i : p.at + 1 < from + many) where
-  later : Order s p.owners p.starts from many (p.at + 1) p.ended
-  later = order-later s p.owners p.starts from many p.at (p.at + 1) p.ended w.order (omega arith)
+-- one byte further inside the part
+module _ (at : ℕ) (p : Pass) (w : Within at p) (h : at < length p.part.text.text.now) (i : at + 1 < p.part.from + p.part.many) where
+  abbrev t : List ℕ
+  t = p.part.text.text.now
 
-  pub within_open : get_or s p.at 0 ≡ round_open → many ≤ 2048 → Within s from many (opened (moved p (p.at + 1) p.inner) (p.at + 1 - from))
-  within_open e room =
+  onward : Order t p.owners.items p.starts.items p.part.from p.part.many (at + 1)
+  onward = order-later t p.owners.items p.starts.items p.part.from p.part.many at w.order (at + 1) (omega arith)
+
+  pub within_open : get_or t at 0 ≡ round_open → Within (at + 1) (record p { opens = record { items = p.opens.items ++ (at + 1 - p.part.from) ∷ [] } })
+  within_open e =
       record {
+        begun = omega (arith, w.begun);
+        before = omega (arith, i);
+        few = omega (arith, w.few, length-append p.opens.items ((at + 1 - p.part.from) ∷ []));
+        none-inner = w.none-inner;
+        waiting = waiting_push t p.opens.items p.part.from p.part.many at w.waiting h e w.begun (omega (arith, w.begun, i));
+        order = onward;
+      }
+
+  -- a bracket is closed, or one from before the part
+  pub within_met : get_or t at 0 ≡ round_close → (p' : Pass) → Closes (at + 1) p p' → Within (at + 1) p'
+  within_met e p' (inl c) =
+      subst (Within (at + 1)) (sym c.1)
+      (record {
         begun = omega (arith, w.begun);
         before = omega (arith, i);
         few = omega (arith, w.few);
         none-inner = w.none-inner;
-        opens_room = length-set p.opens p.high (p.at + 1 - from) ∙ w.opens_room;
-        waiting = waiting_push s p.opens from many p.at p.high w.waiting h e (omega (arith, w.few, w.opens_room, room, i)) w.begun (omega (arith, w.begun, i));
-        order = later;
-      }
-
-  pub within_met : get_or s p.at 0 ≡ round_close → 0 < p.high → many ≤ 2048 → Within s from many (closed (moved p (p.at + 1) p.inner))
-  within_met e any room =
-      record {
+        waiting = waiting_stray t p.opens.items p.part.from p.part.many at 0 w.waiting h e c.0;
+        order = onward;
+      })
+  within_met e p' (inr c) =
+      subst (Within (at + 1)) (sym c.1)
+      (record {
         begun = omega (arith, w.begun);
         before = omega (arith, i);
-        few = omega (arith, w.few);
+        few = omega (arith, w.few, closed-few p (at + 1) c.0);
         none-inner = w.none-inner;
-        opens_room = w.opens_room;
-        waiting = waiting_pop s p.opens from many p.at p.high 0 w.waiting h e refl;
-        order = order-met s p.opens p.owners p.starts from many p.at p.high 0 p.ended w.waiting w.order h e refl any (omega (arith, w.few, room, i));
-      }
+        waiting = waiting_pop t p.opens.items p.part.from p.part.many at 0 w.waiting h e refl;
+        order = order-met t p.owners.items p.starts.items p.part.from p.part.many at w.order p.opens.items 0 w.waiting h e refl c.0;
+      })
 
-  -- a bracket from before the part is closed
-  pub within_stray : get_or s p.at 0 ≡ round_close → p.high ≡ 0 → Within s from many (moved p (p.at + 1) p.inner)
-  within_stray e z =
-      let same : p.high - 1 ≡ p.high = omega (arith, z) in
-      record {
-        begun = omega (arith, w.begun);
-        before = omega (arith, i);
-        few = omega (arith, w.few);
-        none-inner = w.none-inner;
-        opens_room = w.opens_room;
-        waiting = subst (λ n. Waiting s p.opens from many (p.at + 1) n 0) same (waiting_pop s p.opens from many p.at p.high 0 w.waiting h e refl);
-        order = later;
-      }
-
-  pub within_other : get_or s p.at 0 ≢ round_open → get_or s p.at 0 ≢ round_close → Within s from many (moved p (p.at + 1) p.inner)
+  pub within_other : get_or t at 0 ≢ round_open → get_or t at 0 ≢ round_close → Within (at + 1) p
   within_other o c =
       record {
         begun = omega (arith, w.begun);
         before = omega (arith, i);
         few = omega (arith, w.few);
         none-inner = w.none-inner;
-        opens_room = w.opens_room;
-        waiting = waiting-other s p.opens from many p.at p.high 0 w.waiting h o c;
-        order = later;
+        waiting = waiting-other t p.opens.items p.part.from p.part.many at 0 w.waiting h o c;
+        order = onward;
       }
 
 -- at its end
-pub within-passed : (s : List ℕ) (from many : ℕ) (p : Pass) → Within s from many p → from + many ≤ length s → Passed s from many p
-within-passed s from many p w l =
+pub within_passed : (at : ℕ) (p : Pass) → Within at p → p.part.from + p.part.many ≤ length p.part.text.text.now → Passed at p
+within_passed at p w l =
     record {
       inside = omega (arith, w.before, l);
       few = omega (arith, w.few, w.before);
@@ -401,108 +384,31 @@ within-passed s from many p w l =
     }
 
 -- where none waits, or the text ends, those that wait have no partner
-pub passed_unmet : (s : List ℕ) (from many : ℕ) (p : Pass) → Passed s from many p → (p.high ≡ 0) ⊎ (length s ≤ p.at) → Unmet s p.opens from many p.high
-passed_unmet s from many p w end =
-    ⊎_elim (λ z. record { within = w.waiting.within; nowhere = λ k l. absurd (omega (arith, z, l)) })
-    (waiting-end s p.opens from many p.at p.high p.inner w.waiting) end
+pub passed_unmet : (at : ℕ) (p : Pass) → Passed at p → (length p.opens.items ≡ 0) ⊎ (length p.part.text.text.now ≤ at) → AllUnmet p
+passed_unmet at p w (inl z) = record { within = w.waiting.within; nowhere = λ k l. absurd (omega (arith, z, l)) }
+passed_unmet at p w (inr l) = waiting-end p.part.text.text.now p.opens.items p.part.from p.part.many at p.inner w.waiting l
 
-pub passed_order : (s : List ℕ) (from many : ℕ) (p : Pass) → Passed s from many p → Order s p.owners p.starts from many (length s) p.ended
-passed_order s from many p w = order-later s p.owners p.starts from many p.at (length s) p.ended w.order w.inside
+pub passed_order : (at : ℕ) (p : Pass) → Passed at p → InOrder p
+passed_order at p w = order-later p.part.text.text.now p.owners.items p.starts.items p.part.from p.part.many at w.order (length p.part.text.text.now) w.inside
 
 -- the places behind their partners rise
-pub order-rising : (s owners starts : List ℕ) (from many ended : ℕ) → Order s owners starts from many (length s) ended → Rising s starts ended
-order-rising s owners starts from many ended o = record { rising = o.rising; inside = o.most }
+pub order-rising : (s owners starts : List ℕ) (from many : ℕ) → Order s owners starts from many (length s) → Rising s starts (length starts)
+order-rising s owners starts from many o =
+    record { rising = λ j k l m. o.rising j k l (omega (arith, m, o.both)); inside = λ k l. o.most k (omega (arith, l, o.both)) }
 
--- ---- the numbers
+-- ---- the notes
 
--- a bracket that is not closed
-pub told-unmet : (s : List ℕ) (at first second : ℕ) → sought_from s at 0 ≡ none → first ≡ never → Told s at first second
-told-unmet s at first second e n = record { there = λ z m. absurd (m n); nowhere = λ q. no_end e; brace = λ z m. absurd (m n) }
+-- of a bracket that is closed before a place: the place, and where a body begins, or that none does
+module _ (s : List ℕ) (from many index start : ℕ) (found : Sought) (c : ClosedBefore s from many index start) where
+  same-body : body_behind s (start - 1) ≡ body_at 0 0 0 start (drop start s)
+  same-body = let back : start - 1 + 1 ≡ start = omega (arith, c.least) in ap (λ p. body_at 0 0 0 p (drop p s)) back
 
--- a bracket that is closed before a place: the place, and where a body begins, or that none does
-module _ (s : List ℕ) (from many index start : ℕ) (found : Sought) (first second : ℕ) (c : ClosedBefore s from many index start) (h : start < never) where
-  back : start ≡ start - 1 + 1
-  back = omega (arith, c.least)
+  pub closes_tells : (found ≡ Nothing → body_at 0 0 0 start (drop start s) ≡ none) → ((p : ℕ) → found ≡ Brace p → body_at 0 0 0 start (drop start s) ≡ some p)
+      → (n : Note) → ClosesNote found start n → NoteTells s (from + index) n
+  closes_tells vain there n (note_broken f e) = subst (NoteTells s (from + index)) (sym e) (no-brace (start - 1) c.partner-there (same-body ∙ vain f))
+  closes_tells vain there n (note_closed e) = subst (NoteTells s (from + index)) (sym e) c.partner-there
+  closes_tells vain there n (note_whole p f e) = subst (NoteTells s (from + index)) (sym e) (c.partner-there, same-body ∙ there p f)
 
-  started : first ≡ start → (second ≢ 0 → body_at 0 0 0 start (drop start s) ≡ some (second - 1)) → Told s (from + index) first second
-  started e b =
-      let same : start - 1 ≡ first - 1 = omega (arith, e) in
-      record {
-        there = λ n m. c.partner-there ∙ ap some same;
-        nowhere = λ q. absurd (omega (arith, e, h, q));
-        brace = λ n m z. subst (λ p. body_behind s p ≡ some (second - 1)) same (subst (λ p. body_at 0 0 0 p (drop p s) ≡ some (second - 1)) back (b z));
-      }
-
-  pub told-closed : (found ≡ Nothing → body_at 0 0 0 start (drop start s) ≡ none) → ((p : ℕ) → found ≡ Brace p → body_at 0 0 0 start (drop start s) ≡ some p)
-      → Closes found start first second → Told s (from + index) first second
-  told-closed vain there (no_body f n) =
-      record {
-        there = λ z m. absurd (m n);
-        nowhere = λ q. no-brace (start - 1) c.partner-there (subst (λ p. body_at 0 0 0 p (drop p s) ≡ none) back (vain f));
-        brace = λ z m. absurd (m n);
-      }
-  told-closed vain there (not_known e z) = started e (λ n. absurd (n z))
-  told-closed vain there (body-there p f e b) = let same : p ≡ second - 1 = omega (arith, b) in started e (λ n. there p f ∙ ap some same)
-
--- what is noted of it is written down by such numbers
-pub closes_note : (found : Sought) (start : ℕ) (n : Note) → 1 ≤ start → ClosesNote found start n → Closes found start (first_of n) (second_of n)
-closes_note found start n h (note_broken f e) = rw e (no_body f refl)
-closes_note found start n h (note_closed e) = rw e (not_known (omega (arith, h)) refl)
-closes_note found start n h (note_whole p f e) = rw e (body-there p f (omega (arith, h)) refl)
-
--- the numbers of one place are set
-pub window-set : (s m : List ℕ) (from many i first second : ℕ) → Window s from many m → i < many → Told s (from + i) first second
-    → Window s from many (set_pair m i first second)
-window-set s m from many i first second w h p =
-    let n = w.noted in
-    let begins' : get_or (set_pair m i first second) 0 0 ≡ from = pair-behind m i first second 0 (omega arith) ∙ w.begins in
-    let places' : get_or (set_pair m i first second) 1 0 ≡ many = pair-behind m i first second 1 (omega arith) ∙ w.places in
-    let few : many ≤ 2048 = omega (arith, n.most, w.places) in
-    let old : (j : ℕ) → j < many → Told s (from + j) (get_or m (2 + j) 0) (get_or m (2050 + j) 0) =
-    λ j l. subst (λ f. Told s (f + j) (get_or m (2 + j) 0) (get_or m (2050 + j) 0)) w.begins (n.each j (omega (arith, w.places))) in
-    record {
-      noted =
-          record {
-            room = pair-room m i first second ∙ n.room;
-            most = omega (arith, places', few);
-            each = λ j l.
-                subst (λ f. Told s (f + j) (get_or (set_pair m i first second) (2 + j) 0) (get_or (set_pair m i first second) (2050 + j) 0)) (sym begins')
-                (set_pair_lem (λ k. Told s (from + k)) m i first second n.room (omega (arith, few)) p j (omega (arith, few, places')) (λ q. old j (omega (arith, places'))));
-          };
-      begins = begins';
-      places = places';
-    }
-
-pub begun-none : (from many : ℕ) (m : List ℕ) → length m ≡ 4099 → Begun from many 0 (set (set m 0 from) 1 many)
-begun-none from many m h =
-    let room' : length (set m 0 from) ≡ 4099 = length-set m 0 from ∙ h in
-    record {
-      room = length-set (set m 0 from) 1 many ∙ room';
-      begins = get_or-set_other (set m 0 from) 1 0 many 0 (λ q. omega arith) ∙ get_or-set_same m 0 from 0 (omega arith);
-      places = get_or-set_same (set m 0 from) 1 many 0 (omega (arith, room'));
-      zero_each = λ k l. absurd (omega arith);
-    }
-
--- the numbers of one place more are 0
-pub begun-next : (from many done : ℕ) (m : List ℕ) → Begun from many done m → done < 2048 → Begun from many (done + 1) (set_pair m done 0 0)
-begun-next from many done m b h =
-    record {
-      room = pair-room m done 0 0 ∙ b.room;
-      begins = pair-behind m done 0 0 0 (omega arith) ∙ b.begins;
-      places = pair-behind m done 0 0 1 (omega arith) ∙ b.places;
-      zero_each = λ k l. set_pair_lem (λ j v w. (v ≡ 0) × (w ≡ 0)) m done 0 0 b.room h (refl, refl) k (omega (arith, h)) (λ n. b.zero_each k (omega (arith, n)));
-    }
-
--- numbers that are 0 tell nothing
-pub begun-window : (s m : List ℕ) (from many done : ℕ) → Begun from many done m → many ≤ done → many ≤ 2048 → Window s from many m
-begun-window s m from many done b h l =
-    record {
-      noted =
-          record {
-            room = b.room;
-            most = omega (arith, b.places);
-            each = λ i g. told_zero s (get_or m 0 0 + i) (get_or m (2 + i) 0) (get_or m (2050 + i) 0) (b.zero_each i (omega (arith, b.places))).0;
-          };
-      begins = b.begins;
-      places = b.places;
-    }
+-- one note more
+pub telling-put : (s : List ℕ) (from i : ℕ) (n : Note) (w : Window) → Telling s from w → NoteTells s (from + i) n → Telling s from (record w { notes = set w.notes i n })
+telling-put s from i n w t h = record { begins = t.begins; tells = noted_put (NoteTells s) (λ at. tt) w from i n t.begins h t.tells }

@@ -2,221 +2,171 @@
 // pass over the text tells them for all brackets of the part.
 #![tactic(auto)]
 
-ghost use Rattle.std.specs.Prelude.{◌≡◌, ◌+◌, ◌-◌, ◌≤◌, ◌<◌, length};
-ghost use Rattle.chunks.specs.Table.{Summed};
+ghost use Rattle.std.specs.Prelude.{◌≡◌, [], ◌∷◌, ◌+◌, ◌-◌, ◌≤◌, ◌<◌, length};
 ghost use Rattle.bodies.specs.Bodies.{Finds};
-ghost use Rattle.parts.specs.Filling.{Begun, ClosesNote, Order, Passed, Unmet, Window, Within, closed, opened};
-ghost use Rattle.parts.specs.Told.{Lent};
+ghost use Rattle.parts.specs.Filling.{AllUnmet, Closes, ClosesNote, InOrder, Passed, Telling, Within};
+ghost use Rattle.parts.specs.Told.{NoteTells};
+ghost use Rattle.windows.specs.Window.{Noted};
 
+use arrayvec::ArrayVec;
 use bodies::Sought;
-use windows::Note;
+use chunks::TextSums;
+use part::Part;
+use windows::{Note, Window};
 
-// A text, the sums of its chunks, and the part of it that is noted: where it begins, and how many places it has.
-#[derive(Clone, Copy)]
-struct Part<'a> {
-    text: &'a [u8],
-    sums: &'a [u16; 36865],
-    from: usize,
-    many: usize,
-    ghost inside: { from + many ≤ length text.now },
-    ghost some: { 1 ≤ many },
-    ghost many_most: { many ≤ 2048 },
-    ghost small: { length text.now < 4294967295 },
-    ghost summed: { Summed text.now sums.now },
-}
+mod part;
 
-impl Part<'_> {
-    // The part with no number noted yet, so none was of use.
-    fn begin(&self, m: &mut [u32; 4099])
-        ensures { Begun self.now.from self.now.many self.now.many m.new }
-    {
-        m[4098] = 0;
-        m[0] = self.from as u32;
-        m[1] = self.many as u32;
-        for k in 0..self.many {
-            windows::put(m, k, Note::Nothing);
-        }
-    }
-}
-
-// How far the pass has come. The brackets that wait, the last one on top; how many from behind the part are open inside them; and those that are
-// closed, in this order, with the places behind their partners. Kept as arrays with their heights: a search takes no memory from the heap. The
-// places stand in an array of their own, since searches for bodies begin there.
+// What a pass over the text has met: the brackets of the part that wait, the last one on top; how many from behind the part are open inside them;
+// and the brackets that are closed, in this order, with the places behind their partners. The places stand in a list of their own, since searches for
+// bodies begin there.
 #[derive(Drop)]
-struct Pass {
-    at: usize,
+struct Pass<'a> {
+    part: Part<'a>,
     inner: usize,
-    opens: [u16; 2048],
-    high: usize,
-    owners: [u16; 2048],
-    starts: [u32; 2048],
-    ended: usize,
+    opens: ArrayVec<u16, 2048>,
+    owners: ArrayVec<u16, 2048>,
+    starts: ArrayVec<u32, 2048>,
 }
 
-impl Pass {
-    // The pass where the part begins: its first bracket waits.
-    fn new(p: &Part) -> Pass
-        ensures at { result.at ≡ p.now.from }
-        ensures within { Within p.now.text.now p.now.from p.now.many result }
+impl<'a> Pass<'a> {
+    // Where the part begins its first bracket waits.
+    fn new(part: Part<'a>) -> Pass<'a>
+        ensures part { result.part ≡ part.entry }
+        ensures within { Within part.entry.from result }
     {
+        let mut opens = ArrayVec::new();
+        opens.push(0);
         Pass {
-            at: p.from,
+            part,
             inner: 0,
-            opens: [0; 2048],
-            high: 1,
-            owners: [0; 2048],
-            starts: [0; 2048],
-            ended: 0,
+            opens,
+            owners: ArrayVec::new(),
+            starts: ArrayVec::new(),
         }
     }
 
-    // A bracket waits.
-    fn open(&mut self, index: usize)
-        requires room { self.old.high < 2048 }
-        requires index { index < 2048 }
-        ensures { self.new ≡ opened self.old index }
+    // The bracket on top, if one waits, is closed before a place.
+    fn close(&mut self, at: usize)
+        requires room { (length self.old.opens.items + length self.old.owners.items ≤ 2048)
+            × (length self.old.starts.items ≡ length self.old.owners.items) }
+        requires place { at < 4294967296 }
+        ensures { Closes at self.old self.new }
     {
-        self.opens[self.high] = index as u16;
-        self.high += 1;
-    }
-
-    // The bracket on top is closed before the place of the pass.
-    fn close(&mut self)
-        requires some { 0 < self.old.high }
-        requires high { self.old.high ≤ 2048 }
-        requires room { self.old.ended < 2048 }
-        requires place { self.old.at < 4294967296 }
-        ensures { self.new ≡ closed self.old }
-    {
-        self.high -= 1;
-        self.owners[self.ended] = self.opens[self.high];
-        self.starts[self.ended] = self.at as u32;
-        self.ended += 1;
+        if let Some(index) = self.opens.pop() {
+            self.owners.push(index);
+            self.starts.push(at as u32);
+        }
     }
 
     // The pass past a byte inside the part. A closing bracket for which none waits closes one from before the part.
-    fn byte_inside(&mut self, p: &Part)
-        requires before { self.old.at + 1 < p.now.from + p.now.many }
-        requires within { Within p.now.text.now p.now.from p.now.many self.old }
-        ensures at { self.new.at ≡ self.old.at + 1 }
-        ensures within { Within p.now.text.now p.now.from p.now.many self.new }
+    fn byte_inside(&mut self, at: usize)
+        requires before { at + 1 < self.old.part.from + self.old.part.many }
+        requires within { Within at self.old }
+        ensures part { self.new.part ≡ self.old.part }
+        ensures within { Within (at + 1) self.new }
     {
-        let b = p.text[self.at];
-        self.at += 1;
-        match b {
-            b'(' => self.open(self.at - p.from),
-            b')' => {
-                if 0 < self.high {
-                    self.close();
-                }
-            }
+        match self.part.text.text[at] {
+            b'(' => self.opens.push((at + 1 - self.part.from) as u16),
+            b')' => self.close(at + 1),
             _ => {}
         }
     }
 
     // The pass inside the part, up to its last byte.
-    fn inside(&mut self, p: &Part)
-        requires at { self.old.at ≡ p.now.from }
-        requires within { Within p.now.text.now p.now.from p.now.many self.old }
-        ensures { Passed p.now.text.now p.now.from p.now.many self.new }
+    fn inside(&mut self)
+        requires { Within self.old.part.from self.old }
+        ensures part { self.new.part ≡ self.old.part }
+        ensures passed { Passed (self.old.part.from + self.old.part.many - 1) self.new }
     {
-        for _place in 1..p.many {
-            self.byte_inside(p);
+        for at in self.part.from..self.part.from + self.part.many - 1 {
+            self.byte_inside(at);
         }
     }
 
     // The pass past a byte behind the part.
-    fn byte_behind(&mut self, p: &Part)
-        requires inside { self.old.at < length p.now.text.now }
-        requires some { 0 < self.old.high }
-        requires passed { Passed p.now.text.now p.now.from p.now.many self.old }
-        ensures at { self.new.at ≡ self.old.at + 1 }
-        ensures passed { Passed p.now.text.now p.now.from p.now.many self.new }
+    fn byte_behind(&mut self, at: usize)
+        requires inside { at < length self.old.part.text.text.now }
+        requires passed { Passed at self.old }
+        ensures part { self.new.part ≡ self.old.part }
+        ensures passed { Passed (at + 1) self.new }
     {
-        let b = p.text[self.at];
-        self.at += 1;
-        match b {
+        match self.part.text.text[at] {
             b'(' => self.inner += 1,
             b')' if 0 < self.inner => self.inner -= 1,
-            b')' => self.close(),
+            b')' => self.close(at + 1),
             _ => {}
         }
     }
 
-    // The pass on up to a place. It ends before that where no bracket waits any more.
-    fn behind_before(&mut self, p: &Part, to: usize)
-        requires further { self.old.at < to }
-        requires to { to ≤ length p.now.text.now }
-        requires some { 0 < self.old.high }
-        requires passed { Passed p.now.text.now p.now.from p.now.many self.old }
-        ensures further { self.old.at < self.new.at }
-        ensures passed { Passed p.now.text.now p.now.from p.now.many self.new }
+    // The pass from one place up to another, or to one before that where no bracket waits any more.
+    fn behind_before(&mut self, from: usize, to: usize) -> usize
+        requires further { from < to }
+        requires to { to ≤ length self.old.part.text.text.now }
+        requires passed { Passed from self.old }
+        ensures further { from < result }
+        ensures part { self.new.part ≡ self.old.part }
+        ensures passed { Passed result self.new }
     {
-        for _place in self.at..to {
-            self.byte_behind(p);
-            if self.high == 0 {
-                return;
+        for at in from..to {
+            self.byte_behind(at);
+            if self.opens.is_empty() {
+                return at + 1;
             }
         }
+        to
     }
 
-    // The pass one turn on: past a chunk in which no bracket that waits is closed, or up to the next one.
-    fn turn(&mut self, p: &Part)
-        requires inside { self.old.at < length p.now.text.now }
-        requires some { 0 < self.old.high }
-        requires passed { Passed p.now.text.now p.now.from p.now.many self.old }
-        ensures further { self.old.at < self.new.at }
-        ensures passed { Passed p.now.text.now p.now.from p.now.many self.new }
+    // The pass one turn on from a place: past a chunk in which no bracket that waits is closed, or up to the next one.
+    fn turn(&mut self, at: usize) -> usize
+        requires inside { at < length self.old.part.text.text.now }
+        requires passed { Passed at self.old }
+        ensures further { at < result }
+        ensures part { self.new.part ≡ self.old.part }
+        ensures passed { Passed result self.new }
     {
-        match chunks::round_past(p.text, p.sums, self.at, self.inner) {
+        match self.part.text.round_past(at, self.inner) {
             Some(inner) => {
-                self.at += chunks::SIZE;
                 self.inner = inner;
+                at + chunks::SIZE
             }
-            None => {
-                let to = chunks::edge_after(self.at, p.text.len());
-                self.behind_before(p, to);
-            }
+            None => self.behind_before(at, chunks::edge_after(at, self.part.text.text.len())),
         }
     }
 
-    // The pass on from the last byte of the part. It ends where no bracket waits any more, and those that wait at the end of the text have no
-    // partner.
-    fn behind(&mut self, p: &Part)
-        requires { Passed p.now.text.now p.now.from p.now.many self.old }
-        ensures few { self.new.high + self.new.ended ≤ p.now.many }
-        ensures unmet { Unmet p.now.text.now self.new.opens p.now.from p.now.many self.new.high }
-        ensures order { Order p.now.text.now self.new.owners self.new.starts p.now.from p.now.many (length p.now.text.now) self.new.ended }
+    // The pass on from a place. It ends where no bracket waits any more, and those that wait at the end of the text have no partner.
+    fn behind(&mut self, from: usize)
+        requires { Passed from self.old }
+        ensures part { self.new.part ≡ self.old.part }
+        ensures unmet { AllUnmet self.new }
+        ensures order { InOrder self.new }
     {
+        let mut at = from;
         // Kept: a turn is a chunk or a part of one, so no `for` counts the turns.
-        while self.at < p.text.len() && 0 < self.high {
-            self.turn(p);
+        while at < self.part.text.text.len() && !self.opens.is_empty() {
+            at = self.turn(at);
         }
     }
 
     // The brackets that have no partner are noted.
-    fn note_unmet(&self, p: &Part, m: &mut [u32; 4099])
-        requires high { self.now.high ≤ p.now.many }
-        requires unmet { Unmet p.now.text.now self.now.opens p.now.from p.now.many self.now.high }
-        requires window { Window p.now.text.now p.now.from p.now.many m.old }
-        ensures { Window p.now.text.now p.now.from p.now.many m.new }
+    fn note_unmet(&self, w: &mut Window)
+        requires unmet { AllUnmet self.now }
+        requires telling { Telling self.now.part.text.text.now self.now.part.from w.old }
+        ensures { Telling self.now.part.text.text.now self.now.part.from w.new }
     {
-        for k in 0..self.high {
-            windows::put(m, usize::from(self.opens[k]), Note::Broken);
+        for k in 0..self.opens.len() {
+            w.put(usize::from(self.opens[k]), Note::Broken);
         }
     }
 
     // The brackets that are closed are noted.
-    fn note_closed(&self, p: &Part, found: &[Sought; 2048], m: &mut [u32; 4099])
-        requires ended { self.now.ended ≤ p.now.many }
-        requires order { Order p.now.text.now self.now.owners self.now.starts p.now.from p.now.many (length p.now.text.now) self.now.ended }
-        requires finds { Finds p.now.text.now self.now.starts self.now.ended found.now }
-        requires window { Window p.now.text.now p.now.from p.now.many m.old }
-        ensures { Window p.now.text.now p.now.from p.now.many m.new }
+    fn note_closed(&self, found: &[Sought; 2048], w: &mut Window)
+        requires order { InOrder self.now }
+        requires finds { Finds self.now.part.text.text.now self.now.starts.items (length self.now.starts.items) found.now }
+        requires telling { Telling self.now.part.text.text.now self.now.part.from w.old }
+        ensures { Telling self.now.part.text.text.now self.now.part.from w.new }
     {
-        for k in 0..self.ended {
-            windows::put(
-                m,
+        for k in 0..self.owners.len() {
+            w.put(
                 usize::from(self.owners[k]),
                 closed_note(found[k], self.starts[k]),
             );
@@ -229,42 +179,44 @@ fn closed_note(found: Sought, start: u32) -> Note
     requires { 1 ≤ start }
     ensures { ClosesNote found start result }
 {
-    let partner = start as usize - 1;
+    let partner = start - 1;
     match found {
         Sought::Nothing => Note::Broken,
-        Sought::Brace(brace) => Note::Whole(partner, brace as usize),
+        Sought::Brace(brace) => Note::Whole(partner, brace),
         Sought::Unknown | Sought::Ongoing => Note::Closed(partner),
     }
 }
 
-// The numbers of a part. The searches for bodies begin at places that rise, and are told together.
-fn fill_part(p: &Part, m: &mut [u32; 4099])
-    requires { Window p.now.text.now p.now.from p.now.many m.old }
-    ensures { Window p.now.text.now p.now.from p.now.many m.new }
+// The notes of a part. The searches for bodies begin at places that rise, and are told together.
+fn fill_part(part: Part, w: &mut Window)
+    requires { Telling part.text.text.now part.from w.old }
+    ensures { Telling part.entry.text.text.now part.entry.from w.new }
 {
-    let mut pass = Pass::new(p);
-    pass.inside(p);
-    pass.behind(p);
-    pass.note_unmet(p, m);
-    let found = bodies::note_bodies(p.text, p.sums, &pass.starts[..pass.ended]);
-    pass.note_closed(p, &found, m);
+    let mut pass = Pass::new(part);
+    pass.inside();
+    pass.behind(part.from + part.many - 1);
+    pass.note_unmet(w);
+    let found = bodies::note_bodies(part.text, &pass.starts);
+    pass.note_closed(&found, w);
 }
 
-// The numbers of the part that begins at a place. In a text with places that a number does not hold none is noted.
-pub fn fill(s: &[u8], t: &[u16; 36865], from: usize, m: &mut [u32; 4099])
-    requires { (from < length s.now) × (length m.old ≡ 4099) × Summed s.now t.now }
-    ensures { Lent s.now m.new t.now }
+// The notes of the part that begins at a place. In a text with places that a note does not hold none is noted.
+pub fn fill(text: TextSums, from: usize, w: &mut Window)
+    requires { from < length text.text.now }
+    ensures { Noted (NoteTells text.entry.text.now) w.new }
 {
-    if 4294967295 <= s.len() {
-        windows::clear(m);
+    let n = text.text.len();
+    if 4294967295 <= n {
+        w.clear();
         return;
     }
-    let part = Part {
-        text: s,
-        sums: t,
-        from,
-        many: windows::MOST.min(s.len() - from),
-    };
-    part.begin(m);
-    fill_part(&part, m);
+    w.begin(from);
+    fill_part(
+        Part {
+            text,
+            from,
+            many: windows::MOST.min(n - from),
+        },
+        w,
+    );
 }

@@ -1,4 +1,4 @@
-// Bytes of a text are passed, those that pass a test, or any, and the lines that end among them are counted. Sixteen bytes are asked at once
+// Bytes of a text are passed, those that pass a test, or any, and the lines that end among them are counted. Sixteen bytes are tested at once
 // where they can be.
 #![tactic(auto)]
 

@@ -16,12 +16,8 @@ fn order(b: u8) -> u32
 pub fn path_before(p: &[u8], q: &[u8]) -> bool
     ensures { result ≡ path_before p.now q.now }
 {
-    for i in 0..p.len().min(q.len()) {
-        if p[i] != q[i] {
-            return order(p[i]) < order(q[i]);
-        }
-    }
-    p.len() < q.len()
+    let ranks = p.iter().map(|b| order(*b));
+    ranks.cmp(q.iter().map(|b| order(*b))).is_lt()
 }
 
 // A path has no tab and no LF, does not start with #, and is UTF-8.

@@ -1,18 +1,19 @@
 -- The functions with a key get a place one after another, and the lines are gone through one after another.
 use Rattle.std.specs.Prelude.{ℕ, suc, ◌+◌, ◌-◌, ◌≤◌, ◌<◌, ◌≡◌, refl, Bool, true, false, List, [], ◌∷◌, ◌++◌, eqb, ltb, length, drop, get_or, set}
-use Rattle.std.proofs.Common.{ap, subst, ◌∙◌, inl, inr, append_assoc, append-nil, arith, add-one, length-set, get_or-set_other, get_or-set_same, eqb-true, ltb-false, ltb-true}
+use Rattle.std.proofs.Common.{ap, ◌∙◌, inl, inr, append_assoc, append-nil, arith, add-one, length-set, get_or-set_other, get_or-set_same, eqb-true, ltb-false, ltb-true}
 use Rattle.std.proofs.Math.Path.{sym}
 use Rattle.std.proofs.Math.Option.{Option, none, some}
 use Rattle.std.proofs.lemmas.Bool.{eqb-false}
 use Rattle.text_rules.specs.Bytes.{if◌then◌otherwise◌, same}
 use Rattle.text_rules.specs.BytesLaws.{whether}
-use Rattle.text_rules.specs.Search.{bytes_before, part}
 use Rattle.gate_rules.specs.Baseline.{Entry, entries_of_lines, entry_key, entry_of, later_of, lookup}
 use Rattle.gate_rules.proofs.BaselineLaws.{later_assoc, later-none}
 use Rattle.gate_rules.specs.Functions.{Fun, key}
 use Rattle.functions.specs.Shown.{no_fun}
-use Rattle.baseline.specs.Reads.{hit, key_of_entry, line_at}
-use Rattle.baseline.specs.Steps.{entries-end, entries_next, entry_list}
+use Rattle.baseline.specs.LinesOf.{LineAt, line-entries}
+use Rattle.baseline.specs.declared.Line.{Line}
+use Rattle.baseline.specs.Reads.{hit, key_of_entry}
+use Rattle.baseline.specs.Steps.{entries-end, entry_list}
 use Rattle.live.specs.Live.{Only}
 use Rattle.places.specs.Places.{Filled, Marks, entry_at, lists, placed}
 
@@ -75,10 +76,6 @@ module _ (k : List ℕ) (place : ℕ) (fs : List Fun) (old : List ℕ) where
           late = λ i h. get_or-set_other new n i place 0 (λ q. omega arith) ∙ m.late i (omega arith);
         }
 
--- the same for an equal key
-pub marks_at : {j k : Option (List ℕ)} {place : ℕ} {fs : List Fun} {old new : List ℕ} → j ≡ k → Marks k place fs old new → Marks j place fs old new
-marks_at {j} {k} {place} {fs} {old} {new} e m = subst (λ i. Marks i place fs old new) (sym e) m
-
 -- a line without a key
 pub marks_none : (place : ℕ) (fs : List Fun) (old : List ℕ) → Marks none place fs old old
 marks_none place fs old = record { same_length = refl; each = λ i h. refl }
@@ -134,23 +131,22 @@ module _ (s : List ℕ) (fs : List Fun) where
             rw t (b ∙ ap (placed s) (sym now))
       ]
 
-  pub seen_next : (from end to : ℕ) (k : Option (List ℕ)) (old new : List ℕ) → Seen from old → from < length s → end ≡ from + bytes_before 10 (drop from s)
-      → part from to s ≡ line_at s from end → k ≡ key_of_entry (entry_of (part from to s)) → Marks k (from + 1) fs old new → Seen (end + 1) new
-  seen_next from end to k old new u l e p q m =
-      let o = entry_of (line_at s from end) in
-      let rest = entries_of_lines (drop (end + 1) s) in
+  pub seen_next : (from : ℕ) (l : Line) → LineAt s from l → (k : Option (List ℕ)) (old new : List ℕ) → Seen from old → from < length s
+      → k ≡ key_of_entry (entry_of l.bytes.now) → Marks k (from + 1) fs old new → Seen l.next new
+  seen_next from l line k old new u inside q m =
+      let o = entry_of l.bytes.now in
+      let rest = entries_of_lines (drop l.next s) in
       let size = m.same_length in
-      let key-is : k ≡ key_of_entry o = q ∙ ap (λ line. key_of_entry (entry_of line)) p in
-      let here : o ≡ entry_at s from = ap (λ n. entry_of (line_at s from n)) e in
+      let here : o ≡ entry_at s from = ap entry_of line.text in
       record {
         seen = u.seen ++ entry_list o;
-        cut = u.cut ∙ ap (λ es. u.seen ++ es) (entries_next s from end e) ∙ sym (append_assoc u.seen (entry_list o) rest);
+        cut = u.cut ∙ ap (λ es. u.seen ++ es) (line-entries s from l line) ∙ sym (append_assoc u.seen (entry_list o) rest);
         room = omega (arith, u.room);
         inside = λ i h. within (lists k (get_or fs i no_fun)) (u.inside i h) (m.each i h);
         finds = λ i h.
             one_more (key (get_or fs i no_fun)) u.seen o
             ∙ found (get_or fs i no_fun) o (lookup (key (get_or fs i no_fun)) u.seen) from (get_or new i 0) (get_or old i 0) (u.finds i h) here
-            (m.each i h ∙ ap (λ j. if lists j (get_or fs i no_fun) then from + 1 otherwise get_or old i 0) key-is);
+            (m.each i h ∙ ap (λ j. if lists j (get_or fs i no_fun) then from + 1 otherwise get_or old i 0) q);
       }
     where
       within : (b : Bool) {old new : ℕ} → old ≤ length s → new ≡ (if b then from + 1 otherwise old) → new ≤ length s
@@ -159,8 +155,7 @@ module _ (s : List ℕ) (fs : List Fun) where
 
 -- ---- the line at a place
 
-pub place-entry : (s : List ℕ) (place end to : ℕ) → 1 ≤ place → end ≡ place - 1 + bytes_before 10 (drop (place - 1) s) → part (place - 1) to s ≡ line_at s (place - 1) end
-    → entry_of (part (place - 1) to s) ≡ placed s place
-place-entry s place end to h e p =
+pub place-entry : (s : List ℕ) (place : ℕ) (l : Line) → 1 ≤ place → LineAt s (place - 1) l → entry_of l.bytes.now ≡ placed s place
+place-entry s place l h line =
     let there : suc (place - 1) ≡ place = omega arith in
-    ap entry_of p ∙ ap (λ n. entry_of (line_at s (place - 1) n)) e ∙ ap (placed s) there
+    ap entry_of line.text ∙ ap (placed s) there

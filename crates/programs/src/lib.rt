@@ -138,14 +138,13 @@ fn replace<R: Files>(rt: &R, bytes: &[u8]) -> io::Result<()> {
     replaced
 }
 
-// Writes the baseline's file, and tells whether it stands. Where this fails it says why.
-pub fn write_baseline<R: Files + Eprint>(rt: &R, bytes: &[u8]) -> bool {
+// Writes the baseline's file. Where this fails it says why, and answers none.
+pub fn write_baseline<R: Files + Eprint>(rt: &R, bytes: &[u8]) -> Option<()> {
     said(
         rt,
         "could not write tools/complexity-baseline.tsv",
         replace(rt, bytes),
     )
-    .is_some()
 }
 
 // Prints. Where this fails it says why.

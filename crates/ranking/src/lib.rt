@@ -203,6 +203,8 @@ impl<'a, R: Rank> Model for Ranking<'a, R> {
 
 impl<'a, R: Rank> Ranking<'a, R> {
     // None is taken yet.
+    // Kept: functions and limits are two parameters, here and where rows are counted and written. The definitions take them one by one, as `listed`
+    // does, and a struct of both would be taken apart at each use.
     pub fn new(rank: R, functions: Functions<'a>, limits: Limits) -> Ranking<'a, R>
         ensures { result ≡ listed R.less R.orders (limits_of limits) (functions_of gate functions.entry.tree.now) }
     {
@@ -217,11 +219,20 @@ impl<'a, R: Rank> Ranking<'a, R> {
             taken: 0,
         }
     }
+}
 
-    // The next function, which is taken.
-    pub fn next(&mut self) -> Option<Function<'a>>
-        ensures { MatchOption result ((self.old ≡ []) × (self.new ≡ [])) (λ f. self.old ≡ shown f ∷ self.new) }
-    {
+impl<'a, R: Rank + Drop> Iterator for Ranking<'a, R> {
+    type Item = Function<'a>;
+
+    ghost use Rattle.std.specs.Iterator.{YieldsFirstBy, item_count};
+    ghost use Rattle.functions.specs.Shown.{shown};
+
+    // The first of those that are still to take, which is taken.
+    ghost next_gives = { YieldsFirstBy shown (λ fs. fs) };
+
+    ghost remaining = { item_count (λ fs. fs) };
+
+    fn next(&mut self) -> Option<Function<'a>> {
         let functions = self.tournament.functions;
         let n = functions.count;
         let first = usize::from(self.nodes[1]);

@@ -1,5 +1,5 @@
 -- The regression lines of one function by what the baseline accepts of it, and their lengths in plain numbers.
-use Rattle.std.specs.Prelude.{ℕ, ◌+◌, ◌≡◌, refl, true, false, Option, Some, None, List, [], ◌∷◌, ◌++◌, ltb, length}
+use Rattle.std.specs.Prelude.{ℕ, ◌+◌, ◌≡◌, refl, Bool, true, false, Option, Some, None, List, [], ◌∷◌, ◌++◌, ltb, length}
 use Rattle.std.proofs.Common.{ap, subst, sym, ◌∙◌, append_assoc, append-nil, arith, length-append}
 use Rattle.std.proofs.Math.Option.{Option as MathOption, none, some}
 use Rattle.text_rules.specs.Bytes.{ascii, if◌then◌otherwise◌, joined}
@@ -66,12 +66,6 @@ start_length f = 2 + located_length f.path f.line f.name
 abbrev pub pair_length : (first : List ℕ) (m : ℕ) (second : List ℕ) (n : ℕ) → ℕ
 pair_length first m second n = length first + length (decimal m) + length second + length (decimal n)
 
-abbrev pub branches_length : Fun → Recorded → ℕ
-branches_length f m = start_length f + (17 + length (decimal f.cyclomatic) + length (decimal m.cyclomatic)) + 1
-
-abbrev pub lines_length : Fun → Recorded → ℕ
-lines_length f m = start_length f + (16 + length (decimal f.lines) + length (decimal m.lines)) + 1
-
 abbrev pub new_length : Fun → ℕ
 new_length f =
     start_length f
@@ -129,13 +123,6 @@ pub new_parts : (f : Fun) → joined (two_pairs f) ≡ told (new_and_over f)
 unfolding listed new_and_over
 new_parts f = simp (append_assoc, append-nil)
 
-pub branches_length_lem : (f : Fun) (m : Recorded) → length (told (more_branches f (entry_of m))) ≡ branches_length f m
-branches_length_lem f m =
-    ap length (sym (branches_parts f m)) ∙ one-length f (ascii " cyclomatic ") f.cyclomatic (ascii " was ") m.cyclomatic ∙ (omega arith)
-
-pub lines-length : (f : Fun) (m : Recorded) → length (told (more_lines f (entry_of m))) ≡ lines_length f m
-lines-length f m = ap length (sym (lines-parts f m)) ∙ one-length f (ascii " is ") f.lines (ascii " lines, was ") m.lines ∙ (omega arith)
-
 pub new_length_lem : (f : Fun) → length (told (new_and_over f)) ≡ new_length f
 new_length_lem f = ap length (sym (new_parts f)) ∙ two-length f
 
@@ -189,3 +176,17 @@ measured-one {r} {ls} line e c b = subst (Measured r) (sym e) (record { count-is
 pub measured-both : {a b r : Size} {ls ms : List (List ℕ)} → Measured a ls → Measured b ms → r.count ≡ a.count + b.count → r.bytes ≡ a.bytes + b.bytes → Measured r (ls ++ ms)
 measured-both {a} {b} {r} {ls} {ms} x y c d =
     record { count-is = omega (arith, c, x.count-is, y.count-is, length-append ls ms); bytes_is = omega (arith, d, x.bytes_is, y.bytes_is, both-length ls ms) }
+
+-- a line of its own, where there is one
+pub record LineMeasured (r : Size) (there : Bool) (line : List ℕ) : Type 0 where
+  pub count-is : r.count ≡ (if there then 1 otherwise 0)
+  pub bytes_is : r.bytes ≡ (if there then length line otherwise 0)
+
+line_by : {r : Size} {text : List ℕ} (there : Bool) (line : List ℕ) → text ≡ told line → LineMeasured r there text → Measured r (if there then line ∷ [] otherwise [])
+unfolding listed
+line_by true line e l = record { count-is = l.count-is; bytes_is = l.bytes_is ∙ ap length e }
+line_by false line e l = record { count-is = l.count-is; bytes_is = l.bytes_is }
+
+pub measured-line : {r : Size} {text : List ℕ} {there test : Bool} (line : List ℕ) → there ≡ test → text ≡ told line → LineMeasured r there text
+    → Measured r (if test then line ∷ [] otherwise [])
+measured-line {r} {text} {there} {test} line t e l = line_by test line e (subst (λ b. LineMeasured r b text) t l)

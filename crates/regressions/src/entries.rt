@@ -8,10 +8,9 @@ ghost use Rattle.gate_rules.specs.Functions.{key};
 ghost use Rattle.gate_rules.specs.Gate.{gate};
 ghost use Rattle.gate_rules.specs.Scan.{functions_of};
 ghost use Rattle.functions.specs.Shown.{no_fun, shown};
-ghost use Rattle.baseline.specs.Ordered.{Unfalling, keys_in};
+ghost use Rattle.baseline.specs.Ordered.{Unfalling, Unfalling-prop, keys_in};
 ghost use Rattle.baseline.specs.Reads.{accepted_by};
 ghost use Rattle.places.specs.Places.{Filled};
-ghost use Rattle.regressions.specs.Worse.{Unfalling-prop};
 
 use baseline::Recorded;
 use functions::{Function, Functions};
@@ -35,7 +34,7 @@ impl Entries<'_> {
         ensures { result ≡ accepted_by (lookup (key (shown f.entry)) (entries_of_lines self.entry.lines.now)) }
     {
         match self.places {
-            None => lookup::lookup_ordered(self.lines, f.path, f.name),
+            None => lookup::lookup_ordered(self.lines, live::function_key(f)),
             Some(places) => places::accepted_at(self.lines, places[k]),
         }
     }

@@ -1,5 +1,5 @@
-// The regression lines of check: each function of a scanned tree against what the baseline accepts of it. The lines are measured first, so that a caller
-// knows how many bytes they take before any of them is written.
+// The regression lines of check: each function of a scanned tree against what the baseline accepts of it. The lines are measured first, so that a
+// caller knows how many bytes they take before any of them is written.
 #![tactic(auto)]
 
 ghost use Rattle.std.specs.Prelude.{◌≡◌, ◌≤◌, length};
@@ -132,7 +132,7 @@ pub fn measure(entries: Entries, limits: Limits) -> Size
     ensures few { result.count ≤ 16384 }
     ensures short { result.bytes ≤ 655360000000 }
 {
-    let mut all = Size { count: 0, bytes: 0 };
+    let mut all = Size::default();
     for k in 0..entries.functions.count {
         let f = entries.functions.get(k);
         let accepted = entries.accepted(k, f);

@@ -1,8 +1,8 @@
 -- The files of the report, taken one after another: their order by number, and what has been listed.
-use Rattle.std.specs.Prelude.{Option, None, Some, refl, ℕ, zero, suc, ◌+◌, ◌≤◌, ◌<◌, ◌≡◌, Bool, true, false, List, [], ◌∷◌, ◌++◌, map, set}
+use Rattle.std.specs.Prelude.{Option, None, Some, ℕ, ◌+◌, ◌≤◌, ◌<◌, ◌≡◌, Bool, true, false, List, [], ◌∷◌, ◌++◌, map}
 use Rattle.std.proofs.Math.Path.{ap}
-use Rattle.std.proofs.Common.{subst, sym, ◌∙◌, append_assoc, append-nil, arith, add-one, drop_of_length-le, length-set, drop-cons, take_all, take_at, take-suc-set}
-use Rattle.std.proofs.Math.ListN.{length, take, drop, get_or, length-take}
+use Rattle.std.proofs.Common.{subst, sym, ◌∙◌, append_assoc, append-nil, arith, length-append, take_all, take_at}
+use Rattle.std.proofs.Math.ListN.{length, take}
 use Rattle.std.proofs.lemmas.List.{length-map}
 use borrow.Author.Tests.{eq-eqb, le-ltb, lt-ltb, ne_eqb}
 use Rattle.text_rules.specs.Bytes.{All, before, kept}
@@ -15,7 +15,7 @@ use Rattle.gate_rules.specs.Report.{Weight, heavier, weight_rows, weights}
 use Rattle.gate_rules.proofs.RowOrders.{heavier_orders}
 use Rattle.gate_rules.specs.Tree.{file_count}
 use Rattle.order.specs.Chosen.{Chosen, Fit, Taken, goes_first, item, left, left-all, left_end, left-next, taken_next, taken_none}
-use Rattle.report_rows.specs.Texts.{weight-rows-next, weight_row}
+use Rattle.report_rows.specs.Texts.{weight_row}
 use Rattle.report_files.specs.Weights.{is_listed, listed as all_listed, listed-count, no_weight, weight_at, weights-are}
 
 -- a file's row
@@ -72,104 +72,70 @@ module _ (tree : List ℕ) where
   abbrev pub heaviest_files : List Weight
   heaviest_files = rules.heaviest (weights gate.functions_in (gate.files tree))
 
-  -- the first `count` numbers are those of files, at most ten
-  pub record Within (count : ℕ) (files : List ℕ) : Type 0 where
-    pub size : length files ≡ 10
-    pub few : count ≤ 10
-    pub inside : All (λ k. k < file_count tree) (take count files)
+  -- the numbers are those of files, at most ten
+  pub record Within (files : List ℕ) : Type 0 where
+    pub few : length files ≤ 10
+    pub inside : All (λ k. k < file_count tree) files
 
   -- and of the heaviest ones
-  pub record Heavy (count : ℕ) (files : List ℕ) : Type 0 where
-    pub within : Within count files
-    pub are : heaviest_files ≡ map (weight_at tree) (take count files)
+  pub record Heavy (files : List ℕ) : Type 0 where
+    pub within : Within files
+    pub are : heaviest_files ≡ map (weight_at tree) files
 
   -- after `done` files the last one was `last`
   pub record Listing (done last : ℕ) (files : List ℕ) : Type 0 where
-    pub size : length files ≡ 10
+    pub count : length files ≡ done
     pub few : done ≤ 10
     pub bound : last ≤ file_count tree
     pub taken : FileTaken done last
-    pub inside : All (λ k. k < file_count tree) (take done files)
-    pub all : map (weight_at tree) (take done files) ++ files_left done ≡ sort heavier (kept is_listed listed)
+    pub inside : All (λ k. k < file_count tree) files
+    pub all : map (weight_at tree) files ++ files_left done ≡ sort heavier (kept is_listed listed)
 
-  pub listing_none : (n : ℕ) (files : List ℕ) → n ≡ file_count tree → length files ≡ 10 → Listing 0 n files
+  pub listing_none : (n : ℕ) (files : List ℕ) → n ≡ file_count tree → files ≡ [] → Listing 0 n files
   listing_none n files e s =
       record {
-        size = s;
+        count = ap length s;
         few = omega arith;
         bound = omega arith;
         taken = taken_none heavier heavier_orders no_weight listed is_listed n (e ∙ sym (listed-count tree));
-        inside = tt;
-        all = left-all heavier heavier_orders no_weight listed is_listed;
+        inside = subst (All (λ k. k < file_count tree)) (sym s) tt;
+        all = ap (λ ks. map (weight_at tree) ks ++ files_left 0) s ∙ left-all heavier heavier_orders no_weight listed is_listed;
       }
 
-  count-taken : (done : ℕ) (files : List ℕ) → done ≤ 10 → length files ≡ 10 → length (map (weight_at tree) (take done files)) ≡ done
-  count-taken done files h s = length-map (take done files) (weight_at tree) ∙ length-take done files ∙ (omega arith)
-
   -- with ten, or where none is left, they are the heaviest
-  heavy_at : (done last : ℕ) (files : List ℕ) → Listing done last files → take 10 (map (weight_at tree) (take done files) ++ files_left done) ≡ map (weight_at tree) (take done files) → Heavy done files
+  heavy_at : (done last : ℕ) (files : List ℕ) → Listing done last files → take 10 (map (weight_at tree) files ++ files_left done) ≡ map (weight_at tree) files → Heavy files
   unfolding rules.heaviest
   heavy_at done last files l e =
       record {
-        within = record { size = l.size; few = l.few; inside = l.inside };
+        within = record { few = omega (arith, l.count, l.few); inside = l.inside };
         are = ap (λ ws. take 10 (sort heavier ws)) (weights-are tree) ∙ ap (take 10) (sym l.all) ∙ e;
       }
 
-  pub heavy_ten : (done last : ℕ) (files : List ℕ) → Listing done last files → 10 ≤ done → Heavy done files
+  pub heavy_ten : (done last : ℕ) (files : List ℕ) → Listing done last files → 10 ≤ done → Heavy files
   heavy_ten done last files l h =
-      heavy_at done last files l (take_at (map (weight_at tree) (take done files)) (files_left done) 10 (omega (arith, count-taken done files l.few l.size, l.few)))
+      heavy_at done last files l (take_at (map (weight_at tree) files) (files_left done) 10 (omega (arith, length-map files (weight_at tree), l.count, l.few)))
 
   module _ (done last next : ℕ) (files : List ℕ) (l : Listing done last files) (c : FileChosen last (placed_from 0 listed) next) (n : next ≤ file_count tree) where
-    pub heavy_end : next ≡ file_count tree → Heavy done files
+    pub heavy_end : next ≡ file_count tree → Heavy files
     heavy_end e =
         let none : files_left done ≡ [] = left_end heavier heavier_orders no_weight listed is_listed done last next l.taken c (e ∙ sym (listed-count tree)) in
-        let front = map (weight_at tree) (take done files) in
+        let front = map (weight_at tree) files in
         let alone : front ++ files_left done ≡ front = ap (λ ws. front ++ ws) none ∙ append-nil front in
-        heavy_at done last files l (ap (take 10) alone ∙ take_all 10 front (omega (arith, count-taken done files l.few l.size, l.few)))
+        heavy_at done last files l (ap (take 10) alone ∙ take_all 10 front (omega (arith, length-map files (weight_at tree), l.count, l.few)))
 
-    pub listing-next : (next ≡ file_count tree → ⊥) → next < file_count tree → done < 10 → Listing (done + 1) next (set files done next)
+    pub listing-next : (next ≡ file_count tree → ⊥) → next < file_count tree → done < 10 → Listing (done + 1) next (files ++ next ∷ [])
     listing-next m h few =
         let there : next ≡ length listed → ⊥ = λ e. m (e ∙ listed-count tree) in
-        let more : take (done + 1) (set files done next) ≡ take done files ++ next ∷ [] = rw (add-one done) (take-suc-set files done next (omega (arith, l.size))) in
         let next-left = left-next heavier heavier_orders no_weight listed is_listed done last next l.taken c there in
         record {
-          size = length-set files done next ∙ l.size;
+          count = length-append files (next ∷ []) ∙ (omega (arith, l.count));
           few = omega arith;
           bound = n;
           taken = taken_next heavier heavier_orders no_weight listed is_listed done last next l.taken c there;
-          inside = subst (All (λ k. k < file_count tree)) (sym more) (All-append (λ k. k < file_count tree) (take done files) (next ∷ []) l.inside (h, tt));
+          inside = All-append (λ k. k < file_count tree) files (next ∷ []) l.inside (h, tt);
           all =
-              ap (λ ks. map (weight_at tree) ks ++ files_left (done + 1)) more
-              ∙ ap (λ ws. ws ++ files_left (done + 1)) (map-append (weight_at tree) (take done files) (next ∷ []))
-              ∙ append_assoc (map (weight_at tree) (take done files)) (weight_at tree next ∷ []) (files_left (done + 1))
-              ∙ ap (λ ws. map (weight_at tree) (take done files) ++ ws) (sym next-left)
+              ap (λ ws. ws ++ files_left (done + 1)) (map-append (weight_at tree) files (next ∷ []))
+              ∙ append_assoc (map (weight_at tree) files) (weight_at tree next ∷ []) (files_left (done + 1))
+              ∙ ap (λ ws. map (weight_at tree) files ++ ws) (sym next-left)
               ∙ l.all;
         }
-
-  -- the rows of the files from the one at place i on
-  unfoldable pub rows_from : ℕ → List ℕ → ℕ → List ℕ
-  rows_from count files i = weight_rows (map (weight_at tree) (drop i (take count files)))
-
-  pub rows_all : (count : ℕ) (files : List ℕ) → rows_from count files 0 ≡ weight_rows (map (weight_at tree) (take count files))
-  unfolding rows_from
-  rows_all count files = refl
-
-  module _ (count : ℕ) (files : List ℕ) (h : Within count files) (i : ℕ) where
-    pub rows-done : length (take count files) ≤ i → rows_from count files i ≡ []
-    unfolding rows_from weight_rows
-    rows-done l = ap (λ ks. weight_rows (map (weight_at tree) ks)) (drop_of_length-le (take count files) l)
-
-    module _ (l : i < length (take count files)) where
-      pub file-inside : get_or (take count files) i 0 < file_count tree
-      file-inside = at_place (take count files) h.inside i l
-        where
-          at_place : (ks : List ℕ) → All (λ k. k < file_count tree) ks → (j : ℕ) → j < length ks → get_or ks j 0 < file_count tree
-          at_place [] a j m = absurd (omega arith)
-          at_place (k ∷ ks) a zero m = a.0
-          at_place (k ∷ ks) a (suc j) m = at_place ks a.1 j (omega arith)
-
-      pub rows_step : rows_from count files i ≡ file_row (weight_at tree (get_or (take count files) i 0)) ++ rows_from count files (i + 1)
-      unfolding rows_from
-      rows_step =
-          let split : drop i (take count files) ≡ get_or (take count files) i 0 ∷ drop (i + 1) (take count files) = rw (add-one i) (drop-cons (take count files) i 0 l) in
-          ap (λ ks. weight_rows (map (weight_at tree) ks)) split ∙ weight-rows-next (weight_at tree (get_or (take count files) i 0)) (map (weight_at tree) (drop (i + 1) (take count files)))

@@ -5,6 +5,7 @@ use Rattle.std.proofs.lemmas.List.{length-map}
 use Rattle.text_rules.specs.Bytes.{All, if◌then◌otherwise◌, kept, total}
 use Rattle.source_rules.specs.TextScan.{TextFun, functions}
 use Rattle.source_rules.proofs.TextScanLaws.{Fine, functions-fine}
+use Rattle.gate_rules.proofs.ConditionLaws.{entries-count}
 use Rattle.gate_rules.specs.Functions.{Fun}
 use Rattle.gate_rules.specs.Gate.{file_of, fun_of, functions_of_file, functions_of_files, gate}
 use Rattle.gate_rules.specs.Records.{records}
@@ -42,14 +43,9 @@ unfolding gate listed
 weights-are tree = kept-weights (map file_of (sources tree))
 
 -- one for each file
-from-count : (tree : List ℕ) (left number entry : ℕ) → length (sources_from tree left number entry) ≡ left
-unfolding sources_from
-from-count tree zero number entry = refl
-from-count tree (suc left) number entry = ap suc (from-count tree left (suc number) (entry + 16))
-
 pub listed-count : (tree : List ℕ) → length (listed tree) ≡ file_count tree
 unfolding listed sources
-listed-count tree = length-map (map file_of (sources tree)) (weight_of functions_of_files) ∙ length-map (sources tree) file_of ∙ from-count tree (file_count tree) 0 4
+listed-count tree = length-map (map file_of (sources tree)) (weight_of functions_of_files) ∙ length-map (sources tree) file_of ∙ entries-count tree (file_count tree) 0 4
 
 -- the weight of the file with a number
 from_at : (tree : List ℕ) (left number entry k : ℕ) → k < left

@@ -10,9 +10,13 @@ ghost use Rattle.order.specs.Chosen.{Decides};
 ghost use Rattle.report_files.specs.Weights.{weight_at};
 ghost use Rattle.report_files.specs.Files.{FileChosen, FileFit, IsFile, file_at, file_first, file_row, heaviest_files, listed, number_in};
 
+use arrayvec::ArrayVec;
 use listing::Writer;
 use std::marker::Model;
 use sums::Totals;
+
+// Kept: here and below a file is its number, below the count of files, beside the sums of all. Two files are compared, and a struct of both would say
+// in each contract that the two are of the same tree, which is no plainer than that each number is below the count.
 
 // The path of a file.
 fn path_at<'a>(totals: &Totals<'a>, k: usize) -> &'a [u8]
@@ -133,8 +137,7 @@ fn write_file_row(w: &mut Writer<'_>, totals: &Totals<'_>, k: usize)
 #[derive(Drop)]
 pub struct Heaviest<'a> {
     totals: &'a Totals<'a>,
-    count: usize,
-    files: [usize; 10],
+    files: ArrayVec<usize, 10>,
 }
 
 impl<'a> Model for Heaviest<'a> {
@@ -155,24 +158,16 @@ impl<'a> Heaviest<'a> {
     pub fn new(totals: &'a Totals<'a>) -> Heaviest<'a>
         ensures { result ≡ heaviest_files totals.now.tree.now }
     {
-        let mut files = [0usize; 10];
+        let mut files = ArrayVec::new();
         let mut last = None;
-        for done in 0..10 {
+        for _done in 0..files.capacity() {
             last = next_file(totals, last);
             let Some(file) = last else {
-                return Heaviest {
-                    totals,
-                    count: done,
-                    files,
-                };
+                return Heaviest { totals, files };
             };
-            files[done] = file;
+            files.push(file);
         }
-        Heaviest {
-            totals,
-            count: 10,
-            files,
-        }
+        Heaviest { totals, files }
     }
 
     // The bytes of their rows.
@@ -180,7 +175,7 @@ impl<'a> Heaviest<'a> {
         ensures { (result ≡ length (weight_rows self.now)) × (result ≤ 42949674000) }
     {
         let mut bytes: usize = 0;
-        for k in &self.files[..self.count] {
+        for k in &self.files {
             bytes += file_row_length(self.totals, *k);
         }
         bytes
@@ -191,7 +186,7 @@ impl<'a> Heaviest<'a> {
         requires { Room (weight_rows self.now) w.old }
         ensures { Writes (weight_rows self.now) w.old w.new }
     {
-        for k in &self.files[..self.count] {
+        for k in &self.files {
             write_file_row(w, self.totals, *k);
         }
     }

@@ -3,48 +3,16 @@
 
 ghost use Rattle.std.specs.Prelude.{◌≡◌, ◌+◌, ◌≤◌, ◌<◌, length};
 ghost use Rattle.gate_rules.specs.Gate.{gate};
-ghost use Rattle.gate_rules.specs.Report.{report_row, report_rows, reported};
+ghost use Rattle.gate_rules.specs.Report.{report_rows, reported};
 ghost use Rattle.gate_rules.specs.Scan.{functions_of};
 ghost use Rattle.functions.specs.Short.{Short};
 ghost use Rattle.functions.specs.Shown.{limits_of, shown};
 ghost use Rattle.listing.specs.Writes.{Room, Writes};
-ghost use Rattle.report_functions.specs.Rows.{measures_of};
 ghost use Rattle.report_functions.specs.Counting.{Counted, Told};
 
 use functions::{Function, Functions, Limits};
 use listing::Writer;
 use ranking::{Ranking, Worst};
-use report_rows::Measures;
-
-// What a function's row tells beside its path and its name.
-// Kept: a `From` is refused here, since neither type is this crate's.
-fn measures(f: Function) -> Measures
-    ensures { result ≡ measures_of f.entry }
-{
-    Measures {
-        line: f.line,
-        lines: f.lines,
-        cyclomatic: f.cyclomatic,
-        nesting: f.nesting,
-        params: f.params,
-    }
-}
-
-// The bytes of a function's row.
-fn row_length(f: Function) -> usize
-    requires { Short (shown f) }
-    ensures { (result ≡ length (report_row (shown f.entry))) × (result ≤ 4294967400) }
-{
-    report_rows::report_row_length(f.path, f.name, measures(f))
-}
-
-// The row of a function.
-fn write_row(w: &mut Writer<'_>, f: Function)
-    requires { Room (report_row (shown f)) w.old }
-    ensures { Writes (report_row (shown f.entry)) w.old w.new }
-{
-    report_rows::write_report_row(w, f.path, f.name, measures(f));
-}
 
 // What is counted over the functions: those over the limits, the bytes of their rows, and the cyclomatic numbers of all.
 #[derive(Clone, Copy)]
@@ -66,7 +34,7 @@ fn counted(limits: Limits, f: Function, c: Counts) -> Counts
     if f.is_over(limits) {
         return Counts {
             over: c.over + 1,
-            bytes: c.bytes + row_length(f),
+            bytes: c.bytes + report_rows::report_row_length(f),
             branches,
         };
     }
@@ -93,8 +61,7 @@ pub fn write_rows(w: &mut Writer<'_>, functions: Functions, limits: Limits)
     requires { Room (report_rows (reported (limits_of limits) (functions_of gate functions.tree.now))) w.old }
     ensures { Writes (report_rows (reported (limits_of limits) (functions_of gate functions.entry.tree.now))) w.old w.new }
 {
-    let mut ranking = Ranking::new(Worst, functions, limits);
-    while let Some(f) = ranking.next() {
-        write_row(w, f);
+    for f in Ranking::new(Worst, functions, limits) {
+        report_rows::write_report_row(w, f);
     }
 }

@@ -10,7 +10,6 @@ use Rattle.gate_rules.specs.Mean.{mean_text}
 use Rattle.gate_rules.specs.Report.{Weight, justified, report_row, weight_rows}
 use Rattle.listing.specs.Texts.{justified-length, located, located_length, located-length, location-is}
 use Rattle.mean.specs.Texts.{mean-length, mean_length}
-use Rattle.report_rows.specs.declared.Measures.{Measures}
 
 -- a number in its column, and a space
 abbrev pub column : ℕ → ℕ → List ℕ
@@ -23,63 +22,51 @@ pub column-length : (width n : ℕ) → length (column width n) ≡ column_lengt
 column-length width n = joined_length (justified width (decimal n) ∷ ascii " " ∷ []) ∙ (omega (arith, justified-length width (decimal n)))
 
 -- the four columns
-abbrev pub measured : Measures → List ℕ
-measured m =
+abbrev pub measured : Fun → List ℕ
+measured f =
     joined
-    (column 5 m.cyclomatic ∷ column 5 m.lines ∷ column 4 m.nesting ∷ justified 6 (decimal m.params) ∷ ascii "  "
+    (column 5 f.cyclomatic ∷ column 5 f.lines ∷ column 4 f.nesting ∷ justified 6 (decimal f.params) ∷ ascii "  "
     ∷ [])
 
-abbrev pub measured_length : Measures → ℕ
-measured_length m =
-    column_length 5 m.cyclomatic + column_length 5 m.lines + column_length 4 m.nesting + max 6 (length (decimal m.params)) + 2
+abbrev pub measured_length : Fun → ℕ
+measured_length f =
+    column_length 5 f.cyclomatic + column_length 5 f.lines + column_length 4 f.nesting + max 6 (length (decimal f.params)) + 2
 
-pub measured-length : (m : Measures) → length (measured m) ≡ measured_length m
-measured-length m =
+pub measured-length : (f : Fun) → length (measured f) ≡ measured_length f
+measured-length f =
     joined_length
-    (column 5 m.cyclomatic ∷ column 5 m.lines ∷ column 4 m.nesting ∷ justified 6 (decimal m.params) ∷ ascii "  "
+    (column 5 f.cyclomatic ∷ column 5 f.lines ∷ column 4 f.nesting ∷ justified 6 (decimal f.params) ∷ ascii "  "
     ∷ [])
     ∙ (omega (
       arith,
-      column-length 5 m.cyclomatic,
-      column-length 5 m.lines,
-      column-length 4 m.nesting,
-      justified-length 6 (decimal m.params),
+      column-length 5 f.cyclomatic,
+      column-length 5 f.lines,
+      column-length 4 f.nesting,
+      justified-length 6 (decimal f.params),
     ))
 
--- the function that a row tells of
-abbrev pub fun_of : List ℕ → List ℕ → Measures → Fun
-fun_of path name m =
-    record {
-      path = path;
-      name = name;
-      line = m.line;
-      lines = m.lines;
-      cyclomatic = m.cyclomatic;
-      nesting = m.nesting;
-      params = m.params;
-    }
-
-abbrev pub row_length : List ℕ → List ℕ → Measures → ℕ
-row_length path name m = measured_length m + located_length path m.line name + 1
+-- a function's row
+abbrev pub row_length : Fun → ℕ
+row_length f = measured_length f + located_length f.path f.line f.name + 1
 
 -- the columns' texts, each with the space behind it
 regrouped : (a b c d e s t u : List ℕ) → joined (a ∷ s ∷ b ∷ s ∷ c ∷ s ∷ d ∷ t ∷ e ∷ u ∷ [])
     ≡ joined (joined (joined (a ∷ s ∷ []) ∷ joined (b ∷ s ∷ []) ∷ joined (c ∷ s ∷ []) ∷ d ∷ t ∷ []) ∷ e ∷ u ∷ [])
 regrouped a b c d e s t u = simp (append_assoc, append-nil)
 
-pub row_is : (path name : List ℕ) (m : Measures) → report_row (fun_of path name m) ≡ joined (measured m ∷ located path m.line name ∷ ascii "\n" ∷ [])
+pub row_is : (f : Fun) → report_row f ≡ joined (measured f ∷ located f.path f.line f.name ∷ ascii "\n" ∷ [])
 unfolding report_row
-row_is path name m =
-    regrouped (justified 5 (decimal m.cyclomatic)) (justified 5 (decimal m.lines)) (justified 4 (decimal m.nesting)) (justified 6 (decimal m.params))
-    (location (fun_of path name m)) (ascii " ") (ascii "  ") (ascii "\n")
-    ∙ ap (λ l. joined (measured m ∷ l ∷ ascii "\n" ∷ [])) (location-is (fun_of path name m))
+row_is f =
+    regrouped (justified 5 (decimal f.cyclomatic)) (justified 5 (decimal f.lines)) (justified 4 (decimal f.nesting)) (justified 6 (decimal f.params)) (location f) (ascii " ")
+    (ascii "  ") (ascii "\n")
+    ∙ ap (λ l. joined (measured f ∷ l ∷ ascii "\n" ∷ [])) (location-is f)
 
-pub row-length : (path name : List ℕ) (m : Measures) → length (joined (measured m ∷ located path m.line name ∷ ascii "\n" ∷ [])) ≡ row_length path name m
-row-length path name m =
-    joined_length (measured m ∷ located path m.line name ∷ ascii "\n" ∷ []) ∙ (omega (arith, measured-length m, located-length path m.line name))
+pub row-length : (f : Fun) → length (joined (measured f ∷ located f.path f.line f.name ∷ ascii "\n" ∷ [])) ≡ row_length f
+row-length f =
+    joined_length (measured f ∷ located f.path f.line f.name ∷ ascii "\n" ∷ []) ∙ (omega (arith, measured-length f, located-length f.path f.line f.name))
 
-pub row-size : (path name : List ℕ) (m : Measures) → length (report_row (fun_of path name m)) ≡ row_length path name m
-row-size path name m = ap length (row_is path name m) ∙ row-length path name m
+pub row-size : (f : Fun) → length (report_row f) ≡ row_length f
+row-size f = ap length (row_is f) ∙ row-length f
 
 -- a file's row
 abbrev pub weight_row : ℕ → List ℕ → List ℕ

@@ -4,20 +4,12 @@
 ghost use Rattle.std.specs.Prelude.{◌≡◌, ◌+◌, ◌≤◌, max, length};
 ghost use Rattle.text_rules.specs.Decimal.{decimal};
 ghost use Rattle.gate_rules.specs.Report.{report_row};
+ghost use Rattle.functions.specs.Shown.{shown};
 ghost use Rattle.listing.specs.Writes.{Room, Writes};
-ghost use Rattle.report_rows.specs.Texts.{column, column_length, fun_of, head, head_length, measured, measured_length, row_length, weight_length, weight_row};
+ghost use Rattle.report_rows.specs.Texts.{column, column_length, head, head_length, measured, measured_length, weight_length, weight_row};
 
+use functions::Function;
 use listing::Writer;
-
-// What a row tells of a function, beside its path and its name.
-#[derive(Clone, Copy)]
-pub struct Measures {
-    pub line: u32,
-    pub lines: u32,
-    pub cyclomatic: u32,
-    pub nesting: u32,
-    pub params: u32,
-}
 
 // A number, right-justified, and a space.
 fn write_column(w: &mut Writer<'_>, width: usize, n: u32)
@@ -29,14 +21,14 @@ fn write_column(w: &mut Writer<'_>, width: usize, n: u32)
 }
 
 // The four columns of a row.
-fn write_measured(w: &mut Writer<'_>, m: Measures)
-    requires { Room (measured m) w.old }
-    ensures { Writes (measured m) w.old w.new }
+fn write_measured(w: &mut Writer<'_>, f: Function)
+    requires { Room (measured (shown f)) w.old }
+    ensures { Writes (measured (shown f.entry)) w.old w.new }
 {
-    write_column(w, 5, m.cyclomatic);
-    write_column(w, 5, m.lines);
-    write_column(w, 4, m.nesting);
-    w.justified(6, m.params as u64);
+    write_column(w, 5, f.cyclomatic);
+    write_column(w, 5, f.lines);
+    write_column(w, 4, f.nesting);
+    w.justified(6, f.params as u64);
     w.text(b"  ");
 }
 
@@ -49,31 +41,30 @@ fn column_length(width: usize, n: u32) -> usize
 }
 
 // The bytes of the four columns.
-fn measured_length(m: Measures) -> usize
-    ensures { (result ≡ measured_length m) × (result ≤ 45) }
+fn measured_length(f: Function) -> usize
+    ensures { (result ≡ measured_length (shown f.entry)) × (result ≤ 45) }
 {
-    let first = column_length(5, m.cyclomatic) + 1;
-    let second = column_length(5, m.lines) + 1;
-    let third = column_length(4, m.nesting) + 1;
-    first + second + third + column_length(6, m.params) + 2
+    let first = column_length(5, f.cyclomatic) + 1;
+    let second = column_length(5, f.lines) + 1;
+    let third = column_length(4, f.nesting) + 1;
+    first + second + third + column_length(6, f.params) + 2
 }
 
 // The bytes of a function's row.
-pub fn report_row_length(path: &[u8], name: &[u8], m: Measures) -> usize
-    requires { length path.now + length name.now ≤ 4294967296 }
-    ensures { (result ≡ row_length path.now name.now m) × (result ≤ 4294967400) }
+pub fn report_row_length(f: Function) -> usize
+    requires { length f.path.now + length f.name.now ≤ 4294967296 }
+    ensures { (result ≡ length (report_row (shown f.entry))) × (result ≤ 4294967400) }
 {
-    measured_length(m) + listing::location_length(path, m.line, name) + 1
+    measured_length(f) + listing::location_length(f.path, f.line, f.name) + 1
 }
 
 // The row of a function.
-#[tactic(auto, using(crate::specs::Texts::lengths))]
-pub fn write_report_row(w: &mut Writer<'_>, path: &[u8], name: &[u8], m: Measures)
-    requires { Room (report_row (fun_of path.now name.now m)) w.old }
-    ensures { Writes (report_row (fun_of path.now name.now m)) w.old w.new }
+pub fn write_report_row(w: &mut Writer<'_>, f: Function)
+    requires { Room (report_row (shown f)) w.old }
+    ensures { Writes (report_row (shown f.entry)) w.old w.new }
 {
-    write_measured(w, m);
-    w.location(path, m.line, name);
+    write_measured(w, f);
+    w.location(f.path, f.line, f.name);
     w.text(b"\n");
 }
 

@@ -1,6 +1,6 @@
 -- What the library's `position` answers, in the words of the definitions.
 use Prim.Native.Nat.{ℕ, suc, ◌+◌, ◌-◌, ◌<◌, ◌≤◌, min}
-use Rattle.std.specs.Prelude.{◌≡◌, ◌≢◌, Bool, cond, List, [], ◌∷◌, length, drop, take, nat_eq, nat_lt, not, Option, None, Some, slice_index}
+use Rattle.std.specs.Prelude.{◌≡◌, ◌≢◌, cond, List, [], ◌∷◌, length, drop, take, nat_eq, nat_lt, not, Option, None, Some, slice_index}
 use Rattle.std.specs.List.{position, prefix_len, starts_with as begins_with}
 use Rattle.std.proofs.Common.{refl, sym, ap, ◌∙◌, arith, inl, inr, drop_of_length-le, ltb-true, ltb-false, lt-ltb, le-ltb}
 use Rattle.std.proofs.Math.ListN.{get_or-eq_default}

@@ -1,4 +1,4 @@
+mod Counting
 mod Finds
 mod Kept
-mod Unmatched
 mod Words

@@ -6,7 +6,7 @@ ghost use Rattle.text_rules.specs.Classes.{brace_close, brace_open};
 ghost use Rattle.source_rules.specs.Brackets.{partner};
 ghost use Rattle.search.specs.Place.{Absent, place_of};
 
-use super::{Met, partner_before};
+use super::{Met, count_unmatched, partner_before};
 use std::marker::Model;
 
 // The last `x`.
@@ -29,21 +29,12 @@ fn behind_last(s: &[u8], x: u8) -> usize
 }
 
 // How many `}` from a place on close nothing that was opened there. A `{` with as many open inside it is never closed.
+#[tactic(auto, using(crate::proofs::Kept::never_closed))]
 fn closings(s: &[u8], from: usize) -> usize
     requires { from ≤ length s.now }
     ensures { partner brace_open brace_close result from (drop from s.now) ≡ none }
 {
-    let mut inner: usize = 0;
-    let mut closed: usize = 0;
-    for at in from..s.len() {
-        match s[at] {
-            b'{' => inner += 1,
-            b'}' if inner == 0 => closed += 1,
-            b'}' => inner -= 1,
-            _ => {}
-        }
-    }
-    closed
+    count_unmatched(s, b'{', b'}', from, s.len()).closed
 }
 
 // The place that is looked at after a bracket at `from` was found to have no partner: so far on that few such places cover a text, and so near

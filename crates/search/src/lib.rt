@@ -2,13 +2,14 @@
 // known of braces is kept, so that a text of many that are never closed is not read to its end for each.
 #![tactic(auto)]
 
-ghost use Rattle.std.specs.Prelude.{◌==◌, ◌≡◌, ◌≢◌, ◌∷◌, ◌+◌, ◌≤◌, length, get_or, drop};
+ghost use Rattle.std.specs.Prelude.{◌==◌, ◌≡◌, ◌≢◌, ◌∷◌, ◌+◌, ◌-◌, ◌≤◌, length, get_or, drop};
 ghost use Rattle.std.specs.List.{position};
 ghost use Rattle.text_rules.specs.Bytes.{ascii};
 ghost use Rattle.text_rules.specs.Classes.{is_space, is_word};
 ghost use Rattle.text_rules.specs.Search.{find, run, starts_with};
 ghost use Rattle.source_rules.specs.Finding.{is_fn};
 ghost use Rattle.search.specs.Place.{Meets, place_of};
+ghost use Rattle.search.specs.Passing.{Passes};
 
 use seek::{byte, byte_before};
 
@@ -67,6 +68,39 @@ pub fn partner_before(
     }
     Met::Depth(inner)
 }
+
+// The brackets of some bytes that have no partner among them: those that close one from before, and those that are not closed.
+#[derive(Clone, Copy)]
+pub struct Unmatched {
+    pub closed: usize,
+    pub opened: usize,
+}
+
+// What is unmatched from one place to another. A bracket with as many open inside it as are closed there is sought on behind it, with the others
+// and those that are opened.
+pub fn count_unmatched(s: &[u8], opening: u8, closing: u8, from: usize, to: usize) -> Unmatched
+    requires { (opening ≢ closing) × (from ≤ to) × (to ≤ length s.now) }
+    ensures passes { Passes s.now opening closing from to result }
+    ensures few { result.closed + result.opened ≤ to - from }
+{
+    let mut closed: usize = 0;
+    let mut opened: usize = 0;
+    for at in from..to {
+        let b = s[at];
+        if b == opening {
+            opened += 1;
+        } else if b == closing {
+            match opened.checked_sub(1) {
+                Some(left) => opened = left,
+                None => closed += 1,
+            }
+        }
+    }
+    Unmatched { closed, opened }
+}
+
+// Kept: this, the next one and `word_end` of measures are one search, `end_while` of seek, each with a test of its own; each says in the words of the
+// rules what that search finds.
 
 // The end of the white space that begins at a place.
 pub fn space_end(s: &[u8], from: usize) -> usize

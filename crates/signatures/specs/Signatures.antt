@@ -1,33 +1,14 @@
 -- The search for the end of a list of parameters and for the brace of the body behind it, and what it answers.
-use Rattle.std.specs.Prelude.{ℕ, ◌+◌, ◌-◌, ◌≤◌, ◌≡◌, ◌≢◌, List, length, Option, None, Some}
+use Rattle.std.specs.Prelude.{ℕ, ◌+◌, ◌≡◌, List, Option, None, Some}
 use Rattle.std.proofs.Common.{ap, subst, sym, ◌∙◌, arith}
 use Rattle.std.proofs.Math.Option.{none, some}
 use Rattle.text_rules.specs.BytesLaws.{some_same}
-use Rattle.source_rules.proofs.PlaceLaws.{body-place}
 use Rattle.flat.specs.Body.{Counted, body_from}
 use Rattle.flat.specs.declared.Counts.{Counts}
 use Rattle.chunks.specs.Passing.{TellsDepth}
-use Rattle.memo.specs.Memo.{Recalls, Tells, number_for}
-use Rattle.parts.specs.Told.{Lent, NoBody, Told, body_behind, never, no-brace, no_end, sought_from}
-use Rattle.signatures.specs.declared.Notes.{Notes}
+use Rattle.memo.specs.Memo.{Known}
+use Rattle.parts.specs.Told.{NoBody, body_behind, no-brace, no_end, sought_from}
 use Rattle.signatures.specs.declared.Signature.{Signature}
-
--- what is lent to searches in a text, and the searches for a body that are kept
-abbrev pub Lends : (s m t f : List ℕ) → Type 0
-Lends s m t f = Lent s m t × Recalls s f
-
--- the same of what a struct holds
-abbrev pub LendsIn : List ℕ → Notes → Type 0
-LendsIn s n = Lends s n.brackets n.sums n.kept
-
--- the lists are as long as they are said to be
-pub record Rooms (n : Notes) : Type 0 where
-  pub brackets_room : length n.brackets ≡ 4099
-  pub sums_room : length n.sums ≡ 36865
-  pub kept_room : length n.kept ≡ 259
-
-pub lent_rooms : (s : List ℕ) (n : Notes) → LendsIn s n → Rooms n
-lent_rooms s n l = record { brackets_room = l.0.0.room; sums_room = l.0.1.room; kept_room = l.1.room }
 
 -- a search goes on behind a chunk that it passes
 pub sought-past : (s : List ℕ) (at depth d : ℕ) → TellsDepth s at depth (Some d) → sought_from s at depth ≡ sought_from s (at + 4096) d
@@ -49,13 +30,6 @@ nothing-begins s closed n e = (
   subst (λ k. Counted k (closed + 1)) (sym e) (record { angle_most = omega arith; opened-most = omega arith; closed-most = omega arith }),
   ap (body_from s (closed + 1)) (sym e),
 )
-
--- a bracket has one partner, so the brace that is told stands behind its list
-pub told-body : (s : List ℕ) (at first second closed : ℕ) → Told s at first second → sought_from s at 0 ≡ some closed → first ≢ 0 → first ≢ never → second ≢ 0
-    → body_behind s closed ≡ some (second - 1)
-told-body s at first second closed t e n m z =
-    let one : first - 1 ≡ closed = some_same (first - 1) closed (sym (t.there n m) ∙ e) in
-    subst (λ p. body_behind s p ≡ some (second - 1)) one (t.brace n m z)
 
 -- what follows a bracket that stands before a place
 abbrev pub Begins : List ℕ → (from : ℕ) → Option Signature → Type 0
@@ -81,15 +55,7 @@ no-body-behind : (s : List ℕ) (from closed : ℕ) → sought_from s from 0 ≡
 no-body-behind s from closed e (no_end n) = let z : ◌≡◌ {A = ℕ} 0 1 = cc in absurd (omega arith)
 no-body-behind s from closed e (no-brace c p n) = subst (λ k. body_behind s k ≡ none) (some_same c closed (sym p ∙ e)) n
 
--- the number tells what a search for the body behind the list finds
-pub begins-tells : (s : List ℕ) (from closed : ℕ) (r : Option Signature) → sought_from s from 0 ≡ some closed → Begins s from r → Tells (number_for (body_of r)) (body_behind s closed)
-begins-tells s from closed (Some r) e b =
-    let brace : body_behind s closed ≡ some r.body = subst (λ k. body_behind s k ≡ some r.body) (some_same r.closed closed (sym b.0 ∙ e)) b.1 in
-    let same : r.body ≡ r.body + 2 - 2 = omega arith in
-    record { nowhere = λ n. absurd (omega (arith, n)); brace = λ l. brace ∙ ap some same }
-begins-tells s from closed None e b = record { nowhere = λ n. no-body-behind s from closed e b; brace = λ l. absurd (omega (arith, l)) }
-
--- a brace that is told stands inside the text, so the number is not much higher than the text is long
-pub number-most : (s : List ℕ) (from : ℕ) (r : Option Signature) → Begins s from r → number_for (body_of r) ≤ length s + 1
-number-most s from (Some r) b = omega (arith, body-place s (r.closed + 1) r.body b.1)
-number-most s from None b = omega arith
+-- so what is kept of the search for the body behind the list is what it finds
+pub begins_known : (s : List ℕ) (from closed : ℕ) (r : Option Signature) → sought_from s from 0 ≡ some closed → Begins s from r → Known (Some (body_of r)) (body_behind s closed)
+begins_known s from closed (Some r) e b = subst (λ k. body_behind s k ≡ some r.body) (some_same r.closed closed (sym b.0 ∙ e)) b.1
+begins_known s from closed None e b = no-body-behind s from closed e b

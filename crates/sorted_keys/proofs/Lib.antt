@@ -1,3 +1,2 @@
 -- The laws that the functions cite.
 mod Inserting
-mod Rotated

@@ -1,2 +1,4 @@
 pub mod Insert
+pub mod KeyList
 pub mod Held
+pub mod Seen

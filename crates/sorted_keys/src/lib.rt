@@ -1,114 +1,125 @@
-// At most 8,192 keys in byte order, each once. They stay where they are, in a text, and are kept by their bounds. A key more is put in at its place,
-// which is found by halves.
+// At most 8,192 keys in byte order, each once. They stay where they are, in the lines of a baseline. A key more is put in at its place, which is
+// found by halves.
 #![tactic(auto)]
 
-ghost use Rattle.std.specs.Prelude.{◌≡◌, ◌&&◌, ltb, [], List, ℕ, ◌+◌, ◌≤◌, ◌<◌, length, take, get_or};
-ghost use Rattle.text_rules.specs.Bytes.{same};
+ghost use Rattle.std.specs.Prelude.{◌≡◌, ◌&&◌, ltb, [], ◌+◌, ◌≤◌, ◌<◌, length, take, get_or};
+ghost use Rattle.arrayvec.specs.ArrayVec.{array_vec_len};
+ghost use Rattle.text_rules.specs.Bytes.{before, same};
 ghost use Rattle.text_rules.specs.Search.{part};
-ghost use Rattle.sorted_keys.specs.Held.{Held, Holds, Put, keys_of, no_place};
-ghost use Rattle.sorted_keys.specs.Insert.{insert, place_of};
+ghost use Rattle.text_rules.specs.Selection.{Rising};
+ghost use Rattle.sorted_keys.specs.Insert.{insert, insert_at, place_of};
 
-use baseline::Span;
+use arrayvec::ArrayVec;
+use baseline::Baseline;
+use std::marker::Model;
 
 // How many keys there may be.
 pub const MOST: usize = 8192;
 
-// The bounds of a key, in half the room of a span.
-#[derive(Clone, Copy)]
-pub struct Place {
-    pub from: u32,
-    pub to: u32,
+// Where a key stands in the lines.
+// Kept: two numbers of 32 bits. A slice of the lines takes twice the room, and 8,192 places are 64 KB of the stack already.
+#[derive(Clone, Copy, Default)]
+struct Place {
+    from: u32,
+    to: u32,
 }
 
-// Kept: an array with its count, since no call takes memory beside what is lent.
+// The keys, by their places. Clauses see the lines and the keys.
 #[derive(Drop)]
-pub struct Keys {
-    pub places: [Place; 8192],
-    pub count: usize,
+pub struct Keys<'a> {
+    baseline: Baseline<'a>,
+    places: ArrayVec<Place, 8192>,
 }
 
-impl Keys {
-    // No key.
-    pub fn none() -> Keys
-        ensures { (s : List ℕ) → Holds s result [] }
+impl<'a> Model for Keys<'a> {
+    ghost use Rattle.sorted_keys.specs.KeyList.{KeyList};
+
+    ghost Value = { KeyList };
+
+    ghost use Rattle.sorted_keys.specs.Seen.{all_held, seen};
+
+    ghost view = { seen };
+
+    ghost invariant = { all_held };
+}
+
+// A place put in at a number. Those from there on move by one, and where all are taken, the last one is dropped.
+fn put_in(places: &mut ArrayVec<Place, 8192>, at: usize, place: Place)
+    requires { (at ≤ array_vec_len places.old) × (at < 8192) }
+    ensures { places.new.items ≡ take 8192 (insert_at at place places.old.items) }
+{
+    places.truncate(MOST - 1);
+    places.insert(at, place);
+}
+
+impl<'a> Keys<'a> {
+    // No key of these lines.
+    pub fn none(baseline: Baseline<'a>) -> Keys<'a>
+        ensures lines { result.lines ≡ baseline.entry.lines.now }
+        ensures keys { result.keys ≡ [] }
     {
         Keys {
-            places: [Place { from: 0, to: 0 }; 8192],
-            count: 0,
+            baseline,
+            places: ArrayVec::new(),
         }
     }
 
-    // The bounds of the key with a number.
-    pub fn span(&self, i: usize) -> Span
-        requires { i < length self.now.places }
-        ensures from { result.from ≡ (get_or self.now.places i no_place).from }
-        ensures to { result.to ≡ (get_or self.now.places i no_place).to }
+    // How many keys there are. They rise.
+    pub fn len(&self) -> usize
+        ensures count { result ≡ length self.now.keys }
+        ensures few { result ≤ 8192 }
+        ensures rising { Rising before self.now.keys }
+    {
+        self.places.len()
+    }
+
+    // The bytes of the key with a number.
+    pub fn key(&self, i: usize) -> &'a [u8]
+        requires { i < length self.now.keys }
+        ensures bytes { result.now ≡ get_or self.now.keys i [] }
+        ensures short { length result.now ≤ 33554432 }
     {
         let place = self.places[i];
-        Span {
-            from: place.from as usize,
-            to: place.to as usize,
-        }
-    }
-
-    // Its bytes.
-    pub fn key<'a>(&self, lines: &'a [u8], i: usize) -> &'a [u8]
-        requires held { Held lines.now self.now }
-        requires inside { i < self.now.count }
-        ensures { result.now ≡ get_or (keys_of lines.now self.now) i [] }
-    {
-        self.span(i).of(lines)
+        &self.baseline.lines[place.from as usize..place.to as usize]
     }
 
     // How many keys stand before a key. They rise, so it is found by halves.
-    fn place_of(&self, lines: &[u8], bytes: &[u8]) -> usize
-        requires { Held lines.now self.now }
-        ensures place { result ≡ place_of bytes.now (keys_of lines.now self.now) }
-        ensures few { result ≤ self.now.count }
+    fn place_of(&self, bytes: &[u8]) -> usize
+        ensures place { result ≡ place_of bytes.now self.now.keys }
+        ensures few { result ≤ length self.now.keys }
     {
-        halving::boundary(self.count, |i| order::before(self.key(lines, i), bytes))
+        halving::boundary(self.len(), |i| order::before(self.key(i), bytes))
     }
 
     // Whether a key stands at a number.
-    fn stands_at(&self, lines: &[u8], at: usize, bytes: &[u8]) -> bool
-        requires { Held lines.now self.now }
-        ensures { result ≡ (ltb at self.now.count && same (get_or (keys_of lines.now self.now) at []) bytes.now) }
+    fn stands_at(&self, at: usize, bytes: &[u8]) -> bool
+        ensures { result ≡ (ltb at (length self.now.keys) && same (get_or self.now.keys at []) bytes.now) }
     {
-        at < self.count && order::same_bytes(self.key(lines, at), bytes)
+        at < self.len() && order::same_bytes(self.key(at), bytes)
     }
 
-    // A key put in at a number: those from there on move by one, and the one behind the last place is dropped.
-    fn put_in(&mut self, at: usize, place: Place)
-        requires { (at ≤ self.old.count) × (at < 8192) × (self.old.count ≤ 8192) }
-        ensures { Put at place self.old self.new }
+    // The key that begins at a place of the lines, put in where it belongs, if it does not stand there yet. Where all places are taken, the last key
+    // is dropped.
+    pub fn insert(&mut self, from: usize, key: &[u8])
+        requires stands { part from (from + length key.now) self.old.lines ≡ key.now }
+        requires inside { from + length key.now ≤ length self.old.lines }
+        ensures lines { self.new.lines ≡ self.old.lines }
+        ensures keys { self.new.keys ≡ take 8192 (insert key.now self.old.keys) }
     {
-        let count = (self.count + 1).min(MOST);
-        self.places[at..count].rotate_right(1);
-        self.places[at] = place;
-        self.count = count;
-    }
-
-    // A key put in at its place, if it does not stand there yet. Where all places are taken, the last key is dropped.
-    pub fn insert(&mut self, lines: &[u8], key: Span)
-        requires { Held lines.now self.old
-            × (key.from ≤ key.to)
-            × (key.to ≤ length lines.now)
-            × (length lines.now ≤ 33554432) }
-        ensures { Holds lines.now self.new (take 8192 (insert (part key.from key.to lines.now) (keys_of lines.now self.old))) }
-    {
-        let bytes = key.of(lines);
-        let at = self.place_of(lines, bytes);
+        let at = self.place_of(key);
         if at == MOST {
             return;
         }
-        if self.stands_at(lines, at, bytes) {
+        if self.stands_at(at, key) {
             return;
         }
-        self.put_in(
+        let to = from + key.len();
+        put_in(
+            &mut self.places,
             at,
             Place {
-                from: key.from as u32,
-                to: key.to as u32,
+                from: from as u32,
+                to: to as u32,
             },
         );
     }

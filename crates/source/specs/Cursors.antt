@@ -15,8 +15,8 @@ use Rattle.source_rules.proofs.TextScanSteps.{byte_before}
 use Rattle.measures.specs.Walks.{Measured}
 use Rattle.measures.specs.declared.Body.{Body}
 use Rattle.passing.specs.declared.Spot.{Spot}
-use Rattle.source.specs.declared.Brackets.{Brackets}
-use Rattle.source.specs.declared.Cursor.{Cursor}
+use Rattle.source.specs.declared.text.Brackets.{Brackets}
+use Rattle.source.specs.State.{State}
 use Rattle.source.specs.declared.Found.{Found}
 
 -- the functions from a place on, where a test span ends at one place and the last body at another
@@ -24,7 +24,7 @@ unfoldable pub remaining_at : List ℕ → (at line span_end resume : ℕ) → L
 remaining_at s at line span_end resume = functions_from span_length at line (span_end - at) (resume - at) (byte_before s at) (drop at s)
 
 -- the functions that are still to come
-unfoldable pub remaining : List ℕ → Cursor → List TextFun
+unfoldable pub remaining : List ℕ → State → List TextFun
 remaining s c = remaining_at s c.at c.line c.span_end c.resume
 
 -- a function that was found, as the rules tell it
@@ -48,9 +48,13 @@ Spanless s from to = (x : ℕ) → from ≤ x → x < to → block_from s x ≡ 
 unfoldable pub Barren : List ℕ → ℕ → ℕ → Type 0
 Barren s from to = (start x : ℕ) → from ≤ x → x < to → function_from start x s ≡ none
 
+-- a cursor by its numbers
+abbrev pub state : (text : List ℕ) (at line span_end resume spanless barren_from barren_to : ℕ) → State
+state text at line span_end resume spanless barren_from barren_to =
+    record { text = text; at = at; line = line; span_end = span_end; resume = resume; spanless = spanless; barren_from = barren_from; barren_to = barren_to }
+
 -- what holds of a cursor in a text
-pub record Ready (s : List ℕ) (c : Cursor) : Type 0 where
-  pub text : c.braces ≡ s
+pub record Ready (s : List ℕ) (c : State) : Type 0 where
   pub inside : c.at ≤ length s
   pub line-least : 1 ≤ c.line
   pub line-most : c.line ≤ c.at + 1
@@ -58,9 +62,9 @@ pub record Ready (s : List ℕ) (c : Cursor) : Type 0 where
   pub no_function : Barren s c.barren_from c.barren_to
 
 -- a function is found, and the cursor behind it has the others. The function's numbers are at most the text's length
-pub record Yields (s : List ℕ) (c : Cursor) (f : Found) (d : Cursor) : Type 0 where
+pub record Yields (s : List ℕ) (c : State) (f : Found) (d : State) : Type 0 where
   pub yields : remaining s c ≡ text_fun s f ∷ remaining s d
-  pub ready : Ready s d
+  pub text : d.text ≡ s
   pub further : c.at < d.at
   pub name-inside : f.name_at + f.name_len ≤ length s
   pub line-most : f.line ≤ length s
@@ -70,17 +74,21 @@ pub record Yields (s : List ℕ) (c : Cursor) (f : Found) (d : Cursor) : Type 0 
   pub params-most : f.params ≤ length s
   pub fine : Fine s (text_fun s f)
 
-pub record Passes (s : List ℕ) (c d : Cursor) : Type 0 where
+pub record Passes (s : List ℕ) (c d : State) : Type 0 where
   pub same : remaining s c ≡ remaining s d
-  pub ready : Ready s d
+  pub text : d.text ≡ s
   pub further : d.at ≡ c.at + 1
 
 -- a cursor at another place
-abbrev pub moved_to : Cursor → ℕ → ℕ → Cursor
+abbrev pub moved_to : State → ℕ → ℕ → State
 moved_to c at line = record c { at = at; line = line }
 
+-- a cursor with the end of another body, and other names behind which no brackets of a function are
+abbrev pub with_name : State → (resume barren_from barren_to : ℕ) → State
+with_name c resume barren_from barren_to = record c { resume = resume; barren_from = barren_from; barren_to = barren_to }
+
 -- what is sought at the byte of a cursor
-abbrev pub sought_at : List ℕ → Cursor → MathOption Places
+abbrev pub sought_at : List ℕ → State → MathOption Places
 sought_at s c = sought (c.span_end - c.at) (c.resume - c.at) (byte_before s c.at) (drop c.at s)
 
 -- nothing begins at a place: no test span, where none is open, and no function, where neither a span nor a body is
@@ -93,24 +101,24 @@ pub record Quieter (s : List ℕ) (from start span_end resume : ℕ) (r : Spot) 
   pub further : from ≤ r.at
   pub inside : r.at ≤ length s
   pub line-most : r.line ≤ r.at + 1
-  pub passes : (c : Cursor) → c.at ≡ from → c.line ≡ start → c.span_end ≡ span_end → c.resume ≡ resume → Ready s c → Ready s (moved_to c r.at r.line) × (remaining s c ≡ remaining s (moved_to c r.at r.line))
+  pub passes : (c : State) → c.at ≡ from → c.line ≡ start → c.span_end ≡ span_end → c.resume ≡ resume → Ready s c → Ready s (moved_to c r.at r.line) × (remaining s c ≡ remaining s (moved_to c r.at r.line))
 
 -- the text has ended: no function is left
-pub record Ended (s : List ℕ) (c d : Cursor) : Type 0 where
+pub record Ended (s : List ℕ) (c d : State) : Type 0 where
   pub all_found : remaining s c ≡ []
   pub none_left : remaining s d ≡ []
-  pub ready : Ready s d
+  pub text : d.text ≡ s
 
-abbrev pub Stepped : List ℕ → Cursor → Option Found → Cursor → Type 0
+abbrev pub Stepped : List ℕ → State → Option Found → State → Type 0
 Stepped s c (Some f) d = Yields s c f d
 Stepped s c None d = Ended s c d
 
-abbrev pub Turned : List ℕ → Cursor → Option Found → Cursor → Type 0
+abbrev pub Turned : List ℕ → State → Option Found → State → Type 0
 Turned s c (Some f) d = Yields s c f d
 Turned s c None d = Passes s c d
 
 -- the test span at the byte of a cursor: its end, no further than the byte where there is none, and the place up to which none begins
-pub record SpanAt (s : List ℕ) (c d : Cursor) : Type 0 where
+pub record SpanAt (s : List ℕ) (c d : State) : Type 0 where
   pub left : d.span_end - c.at ≡ (c.span_end - c.at) or_else span_length (drop c.at s)
   pub no_span : Spanless s c.at d.spanless
 
@@ -154,11 +162,9 @@ pub record MeasuredAt (s : List ℕ) (at line : ℕ) (f : Found) (end : ℕ) : T
   pub function_is : text_fun s f ≡ measured at line (drop at s) places
   pub end_is : end ≡ at + places.body_to
   pub name-inside : f.name_at + f.name_len ≤ length s
+  pub fine : Fine s (text_fun s f)
 
-pub record NoneAt (s : List ℕ) (at from to : ℕ) : Type 0 where
-  pub not_found : function_at (drop at s) ≡ none
-  pub no_function : Barren s from to
-
-abbrev pub Measures : List ℕ → Cursor → Option Found → Cursor → Type 0
-Measures s c (Some f) d = MeasuredAt s c.at c.line f d.resume × Barren s d.barren_from d.barren_to
-Measures s c None d = NoneAt s c.at d.barren_from d.barren_to × (d.resume ≡ c.resume)
+-- what is found at the byte of a cursor
+abbrev pub Measures : List ℕ → State → Option Found → State → Type 0
+Measures s c (Some f) d = MeasuredAt s c.at c.line f d.resume
+Measures s c None d = (function_at (drop c.at s) ≡ none) × (d.resume ≡ c.resume)

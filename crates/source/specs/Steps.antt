@@ -27,9 +27,9 @@ use Rattle.passing.specs.Passing.{Passed}
 use Rattle.passing.specs.declared.Spot.{Spot}
 use Rattle.search.specs.EndLaws.{no_body, no-partner, none-some}
 use Rattle.search.specs.Place.{Absent}
-use Rattle.source.specs.Cursors.{Barren, Calm, Closed, FoundAt, MeasuredAt, Passes, Quieter, Ready, SpanAt, Spanless, Yields, moved_to, remaining, remaining_at, text_fun}
-use Rattle.source.specs.declared.Brackets.{Brackets}
-use Rattle.source.specs.declared.Cursor.{Cursor}
+use Rattle.source.specs.Cursors.{Barren, Calm, Closed, FoundAt, MeasuredAt, Quieter, Ready, SpanAt, Spanless, Yields, moved_to, remaining, remaining_at, text_fun}
+use Rattle.source.specs.declared.text.Brackets.{Brackets}
+use Rattle.source.specs.State.{State}
 use Rattle.source.specs.declared.Found.{Found}
 
 -- `end` is where the span at the byte ends
@@ -71,47 +71,26 @@ pub span_new : (left m n : ℕ) → left ≡ 0 → m ≡ n → m ≡ left or_els
 span_new left m n z e = rw z e
 
 -- past a byte, without a function and with one
-pub record Next (s : List ℕ) (c d : Cursor) : Type 0 where
+pub record Next (s : List ℕ) (c d : State) : Type 0 where
   pub at-is : d.at ≡ c.at + 1
   pub line-is : d.line ≡ count_after lf (get_or s c.at 0) c.line
-  pub text : d.braces ≡ s
   pub span : SpanAt s c d
-  pub barren : Barren s d.barren_from d.barren_to
 
-module _ (s : List ℕ) (c : Cursor) (h : c.at < length s) (ready : Ready s c) (d : Cursor) (next : Next s c d) where
-  next-ready : Ready s d
-  unfolding Spanless
-  next-ready =
-      let l : (c.line ≤ d.line) × (d.line ≤ suc c.line) = omega (arith, next.line-is, count-after lf (get_or s c.at 0) c.line) in
-      record {
-        text = next.text;
-        inside = omega (arith, next.at-is);
-        line-least = omega (arith, ready.line-least);
-        line-most = omega (arith, ready.line-most, next.at-is);
-        no_span = λ x i k. next.span.no_span x (omega (arith, next.at-is)) k;
-        no_function = next.barren;
-      }
-
+module _ (s : List ℕ) (c : State) (h : c.at < length s) (d : State) (next : Next s c d) where
   abbrev Remains : (at line resume : ℕ) → Type 0
   Remains at line resume = remaining_at s c.at c.line c.span_end c.resume ≡ remaining_at s at line d.span_end resume
 
-  pub passes : d.resume ≡ c.resume → sought (d.span_end - c.at) (c.resume - c.at) (byte_before s c.at) (drop c.at s) ≡ none → Passes s c d
+  pub passes : d.resume ≡ c.resume → sought (d.span_end - c.at) (c.resume - c.at) (byte_before s c.at) (drop c.at s) ≡ none → remaining s c ≡ remaining s d
   unfolding remaining
   passes e n =
-      record {
-        same =
-            subst (λ resume. Remains d.at d.line resume) (sym e)
-            (subst (λ at. Remains at d.line c.resume) (sym next.at-is)
-            (subst (λ line. Remains (c.at + 1) line c.resume) (sym next.line-is) (step_past s c.at c.line c.span_end c.resume d.span_end h next.span.left n)));
-        ready = next-ready;
-        further = next.at-is;
-      }
+      subst (λ resume. Remains d.at d.line resume) (sym e)
+      (subst (λ at. Remains at d.line c.resume) (sym next.at-is)
+      (subst (λ line. Remains (c.at + 1) line c.resume) (sym next.line-is) (step_past s c.at c.line c.span_end c.resume d.span_end h next.span.left n)))
 
-  pub finds : (f : Found) (m : MeasuredAt s c.at c.line f d.resume) → sought (d.span_end - c.at) (c.resume - c.at) (byte_before s c.at) (drop c.at s) ≡ some m.places → Yields s c f d
+  pub finds : d.text ≡ s → (f : Found) (m : MeasuredAt s c.at c.line f d.resume) → sought (d.span_end - c.at) (c.resume - c.at) (byte_before s c.at) (drop c.at s) ≡ some m.places → Yields s c f d
   unfolding remaining text_fun
-  finds f m n =
-      let here-at : Here s c.at c.line (drop c.at s) = record { rest = refl; inside = omega arith; line-least = ready.line-least; line-most = omega (arith, ready.line-most) } in
-      let g : Fine s (text_fun s f) = subst (Fine s) (sym m.function_is) (fine s c.at c.line (drop c.at s) m.places here-at m.found) in
+  finds same f m n =
+      let g = m.fine in
       let line = count_after lf (get_or s c.at 0) c.line in
       record {
         yields =
@@ -120,7 +99,7 @@ module _ (s : List ℕ) (c : Cursor) (h : c.at < length s) (ready : Ready s c) (
             ∙ ap (λ k. text_fun s f ∷ remaining_at s (c.at + 1) k d.span_end (c.at + m.places.body_to)) (sym next.line-is)
             ∙ ap (λ k. text_fun s f ∷ remaining_at s k d.line d.span_end (c.at + m.places.body_to)) (sym next.at-is)
             ∙ ap (λ k. text_fun s f ∷ remaining_at s d.at d.line d.span_end k) (sym m.end_is);
-        ready = next-ready;
+        text = same;
         further = omega (arith, next.at-is);
         name-inside = m.name-inside;
         line-most = g.line-most;
@@ -131,12 +110,35 @@ module _ (s : List ℕ) (c : Cursor) (h : c.at < length s) (ready : Ready s c) (
         fine = g;
       }
 
+-- one byte further what holds of a cursor holds
+pub ready_next : (s : List ℕ) (c : State) → c.at < length s → Ready s c → (line : ℕ) → line ≡ count_after lf (get_or s c.at 0) c.line → Ready s (moved_to c (c.at + 1) line)
+unfolding Spanless
+ready_next s c h ready line e =
+    let l : (c.line ≤ line) × (line ≤ suc c.line) = omega (arith, e, count-after lf (get_or s c.at 0) c.line) in
+    record {
+      inside = omega arith;
+      line-least = omega (arith, ready.line-least);
+      line-most = omega (arith, ready.line-most);
+      no_span = λ x i k. ready.no_span x (omega arith) k;
+      no_function = ready.no_function;
+    }
+
+-- with another span, and another place up to which none begins
+pub ready_span : (s : List ℕ) (c : State) (end to : ℕ) → Ready s c → Spanless s c.at to → Ready s (record c { span_end = end; spanless = to })
+ready_span s c end to ready gone =
+    record { inside = ready.inside; line-least = ready.line-least; line-most = ready.line-most; no_span = gone; no_function = ready.no_function }
+
+-- with other places at which no function is, and another body
+pub ready_name : (s : List ℕ) (c : State) (resume from to : ℕ) → Ready s c → Barren s from to → Ready s (record c { resume = resume; barren_from = from; barren_to = to })
+ready_name s c resume from to ready gone =
+    record { inside = ready.inside; line-least = ready.line-least; line-most = ready.line-most; no_span = ready.no_span; no_function = gone }
+
 -- past a byte at which nothing begins: only the place and the line change
-pub quiet : (s : List ℕ) (c : Cursor) → c.at < length s → Ready s c → Calm s c.span_end c.resume c.at → (line : ℕ) → line ≡ count_after lf (get_or s c.at 0) c.line
-    → Passes s c (moved_to c (c.at + 1) line)
-quiet s c h ready calm line e = passes s c h ready d next refl none_here
+pub quiet : (s : List ℕ) (c : State) → c.at < length s → Ready s c → Calm s c.span_end c.resume c.at → (line : ℕ) → line ≡ count_after lf (get_or s c.at 0) c.line
+    → remaining s c ≡ remaining s (moved_to c (c.at + 1) line)
+quiet s c h ready calm line e = passes s c h d next refl none_here
   where
-    d : Cursor
+    d : State
     d = moved_to c (c.at + 1) line
 
     left : c.span_end - c.at ≡ (c.span_end - c.at) or_else span_length (drop c.at s)
@@ -147,7 +149,7 @@ quiet s c h ready calm line e = passes s c h ready d next refl none_here
         ]
 
     next : Next s c d
-    next = record { at-is = refl; line-is = e; text = ready.text; span = record { left = left; no_span = ready.no_span }; barren = ready.no_function }
+    next = record { at-is = refl; line-is = e; span = record { left = left; no_span = ready.no_span } }
 
     none_here : sought (c.span_end - c.at) (c.resume - c.at) (byte_before s c.at) (drop c.at s) ≡ none
     none_here =
@@ -183,7 +185,7 @@ module _ (s : List ℕ) (from start span_end resume : ℕ) where
         passes = λ c e d i j r. subst (λ at. Goes c at start) e (subst (λ line. Goes c c.at line) d (r, refl));
       }
     where
-      Goes : Cursor → ℕ → ℕ → Type 0
+      Goes : State → ℕ → ℕ → Type 0
       Goes c at line = Ready s (moved_to c at line) × (remaining s c ≡ remaining s (moved_to c at line))
 
   quieter_next : (at line : ℕ) → Quieter s from start span_end resume (record { at = at; line = line }) → at < length s → Calm s span_end resume at → (next : ℕ) → next ≡ count_after lf (get_or s at 0) line
@@ -197,7 +199,7 @@ module _ (s : List ℕ) (from start span_end resume : ℕ) where
             let (m, n) = q.passes c i j k l r in
             let d : Calm s c.span_end c.resume at = subst (λ x. Calm s x c.resume at) (sym k) (subst (λ x. Calm s span_end x at) (sym l) calm) in
             let p = quiet s (moved_to c at line) h m d next e in
-            (p.ready, n ∙ p.same);
+            (ready_next s (moved_to c at line) h m next e, n ∙ p);
       }
 
   quieter_many : (q : Spot) → Quieter s from start span_end resume q → (many : ℕ) → q.at + many ≤ length s → ((i : ℕ) → i < many → Calm s span_end resume (q.at + i))
@@ -225,11 +227,11 @@ module _ (s : List ℕ) (from start span_end resume : ℕ) where
           ]
 
 -- a turn that finds a function finds it for every cursor that has the same functions
-pub yields-later : (s : List ℕ) (b c : Cursor) (f : Found) (d : Cursor) → remaining s c ≡ remaining s b → b.at ≤ c.at → Yields s c f d → Yields s b f d
+pub yields-later : (s : List ℕ) (b c : State) (f : Found) (d : State) → remaining s c ≡ remaining s b → b.at ≤ c.at → Yields s c f d → Yields s b f d
 yields-later s b c f d e h y =
     record {
       yields = sym e ∙ y.yields;
-      ready = y.ready;
+      text = y.text;
       further = omega (arith, y.further);
       name-inside = y.name-inside;
       line-most = y.line-most;
@@ -240,7 +242,7 @@ yields-later s b c f d e h y =
       fine = y.fine;
     }
 
-pub remaining-end : (s : List ℕ) (c : Cursor) → length s ≤ c.at → remaining s c ≡ []
+pub remaining-end : (s : List ℕ) (c : State) → length s ≤ c.at → remaining s c ≡ []
 unfolding remaining remaining_at
 remaining-end s c h = functions-end s c.at h span_length c.line (c.span_end - c.at) (c.resume - c.at) (byte_before s c.at)
 
@@ -268,11 +270,11 @@ module _ (s : List ℕ) (at from to : ℕ) (e : from ≡ at + 2 + run is_space (
   pub broken : from ≤ to → to ≢ from → ((start : ℕ) → function_from start to s ≡ none) → function_at (drop at s) ≡ none
   broken h n gone = no_function s at (omega (arith, from_is, to_is)) (ap (λ k. function_from (at + name_start (drop at s)) k s) (sym to_is) ∙ gone (at + name_start (drop at s)))
 
-  there : from ≤ to → (line : ℕ) (b : Brackets) (f : Found) → Closed s to b → FoundAt s line from to b f
+  there : from ≤ to → (line : ℕ) → Here s at line (drop at s) → (b : Brackets) (f : Found) → Closed s to b → FoundAt s line from to b f
       → (p : Places) → function_at (drop at s) ≡ some p → moved_places at (some p) ≡ some (places_at (at + name_start (drop at s)) to b.opened b.closed b.body b.end)
       → MeasuredAt s at line f (b.end + 1)
   unfolding text_fun measured
-  there h line b f c i p g m =
+  there h line here-at b f c i p g m =
       let m₁ : at + p.name_from ≡ from = ap (place_in (λ q. q.name_from)) m ∙ sym from_is in
       let m₂ : at + p.name_to ≡ to = ap (place_in (λ q. q.name_to)) m in
       let m₃ : at + p.params_from ≡ b.opened + 1 = ap (place_in (λ q. q.params_from)) m ∙ sym (add-one b.opened) in
@@ -283,21 +285,23 @@ module _ (s : List ℕ) (at from to : ℕ) (e : from ≡ at + 2 + run is_space (
       let list : part (b.opened + 1) b.closed s ≡ part p.params_from p.params_to (drop at s) = cc (m₃, m₄, part-rest at s p.params_from p.params_to) in
       let body : part b.body (b.end + 1) s ≡ part p.body_from p.body_to (drop at s) = cc (m₅, m₆, part-rest at s p.body_from p.body_to) in
       let named : take f.name_len (drop f.name_at s) ≡ part from to s = cc (i.name-at-is, i.name_len_is) in
+      let same : text_fun s f ≡ measured at line (drop at s) p =
+      same_function _ _ _ _ _ _ _ _ _ _ _ _ _ _ (i.name-at-is ∙ sym m₁) (named ∙ name) i.line-is (i.lines-is ∙ ap lines_of body) (i.cyclomatic-is ∙ ap cyclomatic_of body)
+      (i.nesting-is ∙ ap nesting_of body) (i.params_is ∙ ap params_of list) in
       record {
         places = p;
         found = g;
-        function_is =
-            same_function _ _ _ _ _ _ _ _ _ _ _ _ _ _ (i.name-at-is ∙ sym m₁) (named ∙ name) i.line-is (i.lines-is ∙ ap lines_of body) (i.cyclomatic-is ∙ ap cyclomatic_of body)
-            (i.nesting-is ∙ ap nesting_of body) (i.params_is ∙ ap params_of list);
+        function_is = same;
         end_is = sym m₆;
+        fine = subst (Fine s) (sym same) (fine s at line (drop at s) p here-at g);
         name-inside = omega (arith, i.name-at-is, i.name_len_is, c.name-first, c.list_order, c.list_first, c.body-order, c.inside);
       }
 
-  pub function_there : from ≤ to → to ≢ from → (line : ℕ) (b : Brackets) (f : Found) → Closed s to b → FoundAt s line from to b f → MeasuredAt s at line f (b.end + 1)
-  function_there h n line b f c i =
+  pub function_there : from ≤ to → to ≢ from → (line : ℕ) → Here s at line (drop at s) → (b : Brackets) (f : Found) → Closed s to b → FoundAt s line from to b f → MeasuredAt s at line f (b.end + 1)
+  function_there h n line here-at b f c i =
       let q = places_at (at + name_start (drop at s)) to b.opened b.closed b.body b.end in
       let (p, g, m) = function_at_lem s at (omega (arith, from_is, to_is)) q (ap (λ k. function_from (at + name_start (drop at s)) k s) (sym to_is) ∙ c.places (at + name_start (drop at s))) in
-      there h line b f c i p g m
+      there h line here-at b f c i p g m
 
 then-none : {A : Type 0} (o : Option ℕ) (k : ℕ → Option A) → ((m : ℕ) → o ≡ some m → k m ≡ none) → (o and_then k) ≡ none
 then-none none k h = refl

@@ -3,36 +3,49 @@
 // over. Bytes at which nothing can begin are passed in blocks of sixteen.
 #![tactic(auto)]
 
-ghost use Rattle.std.specs.Prelude.{◌≡◌, IsTrue, ℕ, true, false, ◌+◌, ◌≤◌, ◌<◌, length, get_or, drop};
+ghost use Rattle.std.specs.Prelude.{◌≡◌, true, false, ◌+◌, ◌≤◌, ◌<◌, length, get_or, drop};
+ghost use Rattle.std.specs.Iterator.{item_count};
 ghost use Rattle.std.proofs.Math.Option.{none};
-ghost use Rattle.text_rules.specs.Classes.{brace_open, lf};
+ghost use Rattle.text_rules.specs.Classes.{lf};
 ghost use Rattle.text_rules.specs.Search.{count_after};
-ghost use Rattle.source_rules.specs.Finding.{function_at, function_from};
-ghost use Rattle.signatures.specs.Signatures.{LendsIn};
+ghost use Rattle.source_rules.specs.Finding.{function_at};
 ghost use Rattle.source_rules.specs.TextScan.{functions};
-ghost use Rattle.source.specs.Cursors.{Barren, Blocked, Closed, FoundAt, Measures, Quieter, Ready, Signed, SpanAt, Stepped, Turned, moved_to, remaining, sought_at};
+ghost use Rattle.source.specs.Cursors.{Closed, FoundAt, Measures, Quieter, SpanAt, Stepped, Turned, moved_to, remaining, sought_at, with_name};
 
-use measures::{Body, Walked};
 use passing::Spot;
-use search::Braces;
-use signatures::{Notes, Signature};
+use std::marker::Model;
+use text::{Brackets, Text};
 
-// Where the search for functions stands in a text.
+mod text;
+
+// Where the search for functions stands in a text. Clauses see the numbers, and the text as its bytes.
 #[derive(Drop)]
 pub struct Cursor<'a> {
-    // the text, and what was learnt of its braces
-    pub braces: Braces<'a>,
+    // the text, and what was learnt of it
+    text: Text<'a>,
     // the byte to look at next, and its line
-    pub at: usize,
-    pub line: usize,
+    at: usize,
+    line: usize,
     // the end of the last test span, and of the last body
-    pub span_end: usize,
-    pub resume: usize,
+    span_end: usize,
+    resume: usize,
     // What was sought in vain is not sought again: no test span begins from `at` up to the first place, no name that ends from the second up to
     // the third is a function's.
-    pub spanless: usize,
-    pub barren_from: usize,
-    pub barren_to: usize,
+    spanless: usize,
+    barren_from: usize,
+    barren_to: usize,
+}
+
+impl<'a> Model for Cursor<'a> {
+    ghost use Rattle.source.specs.State.{State};
+
+    ghost Value = { State };
+
+    ghost use Rattle.source.specs.Cursors.{Ready, state};
+
+    ghost view = { λ c. state c.text c.at c.line c.span_end c.resume c.spanless c.barren_from c.barren_to };
+
+    ghost invariant = { λ c. Ready c.text (state c.text c.at c.line c.span_end c.resume c.spanless c.barren_from c.barren_to) };
 }
 
 // A function: where its name stands in the text, and what is measured.
@@ -45,105 +58,6 @@ pub struct Found {
     pub cyclomatic: usize,
     pub nesting: usize,
     pub params: usize,
-}
-
-// The brackets of a function after its name, those of its list and those of its body, and what is measured of the body.
-#[derive(Clone, Copy)]
-struct Brackets {
-    opened: usize,
-    closed: usize,
-    body: usize,
-    end: usize,
-    measures: Walked,
-}
-
-// Whether every brace that was sought had a partner, and one may stand behind a place.
-fn is_closed_so_far(braces: &Braces, at: usize) -> bool {
-    braces.at == braces.last_closing && at < braces.at
-}
-
-// The body whose opening brace stands at a place, if it is ever closed. Its end is sought before it is measured.
-fn block_found(braces: &mut Braces, body: usize) -> Option<Body>
-    requires { body < length braces.old }
-    ensures block { Blocked braces.old body result }
-    ensures same { braces.new ≡ braces.old }
-{
-    let s = braces.text();
-    let end = braces.block_end(body + 1)?;
-    let to = end + 1;
-    Some(Body {
-        end,
-        measures: measures::walk(&s[body..to]),
-    })
-}
-
-// The body whose opening brace stands at a place, if it is ever closed. As long as every brace has a partner, it is measured on the way to its end.
-fn block_at(braces: &mut Braces, body: usize) -> Option<Body>
-    requires inside { body < length braces.old }
-    requires brace { get_or braces.old body 0 ≡ brace_open }
-    ensures block { Blocked braces.old body result }
-    ensures same { braces.new ≡ braces.old }
-{
-    if is_closed_so_far(braces, body) {
-        let s = braces.text();
-        if let Some(b) = measures::walk_from(&s[body..], 0) {
-            return Some(Body {
-                end: body + b.end,
-                measures: b.measures,
-            });
-        }
-    }
-    block_found(braces, body)
-}
-
-// Whether no `{` stands from a place on, or no `}`: no name that ends there is a function's.
-#[tactic(auto, using(crate::proofs::Behind::behind_opening, crate::proofs::Behind::behind_closing))]
-fn is_behind_braces(braces: &Braces, to: usize) -> bool
-    ensures { IsTrue result → (from x : ℕ) → to ≤ x → function_from from x braces.now ≡ none }
-{
-    braces.last_opening <= to || braces.last_closing <= to
-}
-
-// The brackets after a name that ends at `to`, each of them sought. Where not all four are there, they are not there either after any other name
-// that ends from there up to the place that is told.
-fn signature_sought(braces: &mut Braces, to: usize, notes: &mut Notes) -> Result<Brackets, usize>
-    requires { LendsIn braces.old notes.old }
-    ensures signed { Signed braces.old to result }
-    ensures same { braces.new ≡ braces.old }
-    ensures lent { LendsIn braces.old notes.new }
-{
-    let s = braces.text();
-    let Some(opened) = search::find(s, b'(', to) else {
-        return Err(s.len());
-    };
-    let inside = opened + 1;
-    let Some(Signature { closed, body }) = signatures::brackets_after(s, inside, notes) else {
-        return Err(inside);
-    };
-    let block = block_at(braces, body);
-    match block {
-        None => Err(inside),
-        Some(b) => Ok(Brackets {
-            opened,
-            closed,
-            body,
-            end: b.end,
-            measures: b.measures,
-        }),
-    }
-}
-
-// The same. Behind the last `{` or the last `}` no name is a function's, and nothing is sought.
-fn signature_at(braces: &mut Braces, to: usize, notes: &mut Notes) -> Result<Brackets, usize>
-    requires { LendsIn braces.old notes.old }
-    ensures signed { Signed braces.old to result }
-    ensures same { braces.new ≡ braces.old }
-    ensures lent { LendsIn braces.old notes.new }
-{
-    if is_behind_braces(braces, to) {
-        return Err(braces.text().len());
-    }
-    signature_sought(braces, to, notes)
 }
 
 // The function on a line whose name stands from one place up to another.
@@ -176,35 +90,47 @@ fn quiet_end(s: &[u8], from: Spot, span_end: usize, resume: usize) -> Spot
     b.pass_while(s, n, |b| b != b'#' && b != b'f')
 }
 
-// The start of a text.
-pub fn start(s: &[u8]) -> Cursor
-    ensures text { result.braces ≡ s.now }
-    ensures ready { Ready s.now result }
-    ensures all { remaining s.now result ≡ functions s.now }
-{
-    Cursor {
-        braces: Braces::nothing_learnt(s),
-        at: 0,
-        line: 1,
-        span_end: 0,
-        resume: 0,
-        spanless: 0,
-        barren_from: 0,
-        barren_to: 0,
-    }
-}
-
 impl<'a> Cursor<'a> {
-    // The function whose `fn` stands at the next byte.
-    fn measure(&mut self, notes: &mut Notes) -> Option<Found>
-        requires inside { self.old.at + 2 ≤ length self.old.braces }
-        requires barren { Barren self.old.braces self.old.barren_from self.old.barren_to }
-        requires lent { LendsIn self.old.braces notes.old }
-        ensures measured { Measures self.old.braces self.old result self.new }
-        ensures others { self.new ≡ record self.old { resume = self.new.resume; barren_from = self.new.barren_from; barren_to = self.new.barren_to } }
-        ensures lent { LendsIn self.old.braces notes.new }
+    // The start of a text.
+    pub fn new(bytes: &'a [u8]) -> Cursor<'a>
+        ensures text { result.text ≡ bytes.now }
+        ensures all { remaining bytes.now result ≡ functions bytes.now }
     {
-        let s = self.braces.text();
+        Cursor {
+            text: Text::new(bytes),
+            at: 0,
+            line: 1,
+            span_end: 0,
+            resume: 0,
+            spanless: 0,
+            barren_from: 0,
+            barren_to: 0,
+        }
+    }
+
+    // The start of another text.
+    // Kept: `new` makes the value, and this sets its fields one by one, since what was learnt of a text is large and changed where it stands.
+    pub fn begin(&mut self, bytes: &'a [u8])
+        ensures text { self.new.text ≡ bytes.now }
+        ensures all { remaining bytes.now self.new ≡ functions bytes.now }
+    {
+        self.text.begin(bytes);
+        self.at = 0;
+        self.line = 1;
+        self.span_end = 0;
+        self.resume = 0;
+        self.spanless = 0;
+        self.barren_from = 0;
+        self.barren_to = 0;
+    }
+
+    // The function whose `fn` stands at the next byte.
+    fn measure(&mut self) -> Option<Found>
+        requires { self.old.at + 2 ≤ length self.old.text }
+        ensures measured { Measures self.old.text self.old result self.new }
+        ensures others { self.new ≡ with_name self.old self.new.resume self.new.barren_from self.new.barren_to }
+    {
+        let s = self.text.bytes();
         let from = search::space_end(s, self.at + 2);
         let to = search::word_end(s, from);
         // `fn(u8) -> u8` is a type, not a definition.
@@ -216,7 +142,7 @@ impl<'a> Cursor<'a> {
                 return None;
             }
         }
-        let signature = signature_at(&mut self.braces, to, notes);
+        let signature = self.text.signature_at(to);
         match signature {
             Err(n) => {
                 self.barren_from = to;
@@ -232,12 +158,11 @@ impl<'a> Cursor<'a> {
 
     // The test span at the next byte: the one that is open, or one that begins there.
     fn open_span(&mut self)
-        requires inside { self.old.at < length self.old.braces }
-        requires ready { Ready self.old.braces self.old }
-        ensures span { SpanAt self.old.braces self.old self.new }
+        requires { self.old.at < length self.old.text }
+        ensures span { SpanAt self.old.text self.old self.new }
         ensures others { self.new ≡ record self.old { span_end = self.new.span_end; spanless = self.new.spanless } }
     {
-        let s = self.braces.text();
+        let s = self.text.bytes();
         let at = self.at;
         if at < self.span_end {
             return;
@@ -255,7 +180,7 @@ impl<'a> Cursor<'a> {
             self.spanless = s.len();
             return;
         };
-        let closed = self.braces.block_end(opened + 1);
+        let closed = self.text.block_end(opened + 1);
         match closed {
             None => self.spanless = opened + 1,
             Some(end) => self.span_end = end,
@@ -263,68 +188,75 @@ impl<'a> Cursor<'a> {
     }
 
     // Whether a function is sought at the next byte: at a word `fn` outside test spans and behind the last body.
-    #[tactic(auto, using(crate::proofs::Words::no_f, crate::proofs::Words::in_span, crate::proofs::Words::in_body, crate::proofs::Words::no_word, crate::proofs::Words::word, crate::proofs::Words::word_inside))]
+    #[tactic(auto, using(crate::proofs::Words::at_byte))]
     fn is_sought(&self) -> bool
-        requires { self.now.at < length self.now.braces }
-        ensures not_found { result ≡ false → sought_at self.now.braces self.now ≡ none }
-        ensures found { result ≡ true → sought_at self.now.braces self.now ≡ function_at (drop self.now.at self.now.braces) }
-        ensures inside { result ≡ true → self.now.at + 2 ≤ length self.now.braces }
+        requires { self.now.at < length self.now.text }
+        ensures not_found { result ≡ false → sought_at self.now.text self.now ≡ none }
+        ensures found { result ≡ true → sought_at self.now.text self.now ≡ function_at (drop self.now.at self.now.text) }
+        ensures inside { result ≡ true → self.now.at + 2 ≤ length self.now.text }
     {
-        let s = self.braces.text();
+        let s = self.text.bytes();
         let at = self.at;
         s[at] == b'f' && self.span_end <= at && self.resume <= at && search::word_at(s, at)
     }
 
     // One byte further.
     fn step(&mut self)
-        requires inside { self.old.at < length self.old.braces }
-        requires line_most { self.old.line ≤ self.old.at + 1 }
-        ensures { self.new ≡ moved_to self.old (self.old.at + 1) (count_after lf (get_or self.old.braces self.old.at 0) self.old.line) }
+        requires { self.old.at < length self.old.text }
+        ensures { self.new ≡ moved_to self.old (self.old.at + 1) (count_after lf (get_or self.old.text self.old.at 0) self.old.line) }
     {
-        let s = self.braces.text();
+        let s = self.text.bytes();
         self.line = flat::count_after(b'\n', s[self.at], self.line);
         self.at += 1;
     }
 
     // Past the next byte, with the function that begins there.
-    fn turn_at(&mut self, notes: &mut Notes) -> Option<Found>
-        requires inside { self.old.at < length self.old.braces }
-        requires ready { Ready self.old.braces self.old }
-        requires lent { LendsIn self.old.braces notes.old }
-        ensures turned { Turned self.old.braces self.old result self.new }
-        ensures lent { LendsIn self.old.braces notes.new }
+    fn turn_at(&mut self) -> Option<Found>
+        requires { self.old.at < length self.old.text }
+        ensures { Turned self.old.text self.old result self.new }
     {
         self.open_span();
         if !self.is_sought() {
             self.step();
             return None;
         }
-        let found = self.measure(notes);
+        let found = self.measure();
         self.step();
         found
     }
 
-    // The next function of the text.
-    pub fn next(&mut self, notes: &mut Notes) -> Option<Found>
-        requires ready { Ready self.old.braces self.old }
-        requires lent { LendsIn self.old.braces notes.old }
-        ensures stepped { Stepped self.old.braces self.old result self.new }
-        ensures lent { LendsIn self.old.braces notes.new }
+    // Past bytes at which nothing can begin. Whether the text goes on there.
+    fn pass_quiet(&mut self) -> bool
+        ensures passed { (self.new.text ≡ self.old.text)
+            × (remaining self.old.text self.old ≡ remaining self.old.text self.new)
+            × (self.old.at ≤ self.new.at) }
+        ensures inside { result ≡ true → self.new.at < length self.new.text }
+        ensures end { result ≡ false → length self.new.text ≤ self.new.at }
     {
-        let s = self.braces.text();
+        let s = self.text.bytes();
+        let from = Spot {
+            at: self.at,
+            line: self.line,
+        };
+        let q = quiet_end(s, from, self.span_end, self.resume);
+        self.at = q.at;
+        self.line = q.line;
+        q.at < s.len()
+    }
+}
+
+impl<'a> Iterator for Cursor<'a> {
+    type Item = Found;
+
+    ghost next_gives = { λ c found d. Stepped c.text c found d };
+
+    ghost remaining = { item_count (λ c. remaining c.text c) };
+
+    // The next function of the text.
+    fn next(&mut self) -> Option<Found> {
         // Kept: a turn passes a run of bytes of any length, so no `for` counts the turns.
-        while self.at < s.len() {
-            let from = Spot {
-                at: self.at,
-                line: self.line,
-            };
-            let q = quiet_end(s, from, self.span_end, self.resume);
-            self.at = q.at;
-            self.line = q.line;
-            if self.at == s.len() {
-                return None;
-            }
-            let found = self.turn_at(notes);
+        while self.pass_quiet() {
+            let found = self.turn_at();
             if found.is_some() {
                 return found;
             }

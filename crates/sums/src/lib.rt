@@ -12,6 +12,8 @@ ghost use Rattle.sums.specs.Sums.{first_entries};
 use functions::Functions;
 
 // The sum of each file of a tree, by its number; 0 behind the last file. A tree has at most 1,024.
+// Kept: an array of all 1,024 numbers. An ArrayVec holds the same array and a length beside it, which the tree tells already, and would have to be
+// filled with as many zeros before the first sum is added.
 #[derive(Clone, Copy)]
 pub struct Totals<'a> {
     pub tree: &'a [u8],

@@ -7,7 +7,7 @@ use Prim.Native.Nat.{ℕ, suc, ◌+◌, ◌≤◌, ◌<◌}
 use native.Mathlib.Numerals.{add-one}
 use borrow.Author.Tests.{eq-eqb, ne_eqb, le-leb, lt-leb}
 use lib.Dec.{eqb}
-use mathlib.Core.Bool.{Bool, true, false, not, ◌&&◌, and-false}
+use mathlib.Core.Bool.{Bool, true, false, ◌&&◌, and-false}
 use lib.ListN.{length, get_or, drop, drop_of_length-le}
 use Rattle.text_rules.specs.Classes.{backslash, hash, quote, slash, star}
 use Rattle.text_rules.proofs.ScanLaws.{run_more, run-stop, split}

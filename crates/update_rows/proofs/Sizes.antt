@@ -14,8 +14,9 @@ use Rattle.text_rules.proofs.OrderLaws.{sort-total}
 use Rattle.gate_rules.specs.Functions.{Fun, Limits, over}
 use Rattle.gate_rules.specs.Gate.{gate}
 use Rattle.gate_rules.proofs.ListingSizes.{baseline-length, recorded-most}
-use Rattle.gate_rules.specs.Scan.{Accepted, functions_of}
+use Rattle.gate_rules.specs.Scan.{functions_of}
 use Rattle.gate_rules.specs.Update.{baseline_text, header, over_limit, recorded, row, row_before, rows}
+use Rattle.functions.proofs.Accepted.{accepted}
 use Rattle.functions.specs.Shown.{Stand, no_fun}
 use Rattle.update_rows.specs.Rows.{lined, lined-length, lined_length}
 
@@ -90,11 +91,7 @@ pub all_bytes_lem : (L : Limits) (fs : List Fun) → left_bytes L fs 0 ≡ lengt
 unfolding left_bytes left recorded over_limit
 all_bytes_lem L fs = sym (rows-length (sort row_before (kept (over L) fs)) ∙ sort-total row_before lined_length (kept (over L) fs))
 
--- where the records stand the tree is accepted, and the rows are few and short
-pub accepted : (tree lent : List ℕ) → Stand tree lent → Accepted gate tree
-unfolding gate
-accepted tree lent s = record { unrefused = s.unrefused; few = s.few }
-
+-- where the records stand the rows are few and short
 pub rows_few : (L : Limits) (tree lent : List ℕ) → Stand tree lent → left_count L (functions_of gate tree) 0 ≤ 8192
 rows_few L tree lent s = omega (arith, all-count L (functions_of gate tree), recorded-most L (functions_of gate tree), s.few)
 

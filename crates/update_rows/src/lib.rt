@@ -85,7 +85,7 @@ pub fn rows_size(functions: Functions, limits: Limits) -> Size
         × (result.count ≤ 8192)
         × (result.bytes ≤ 33554432) }
 {
-    let mut size = Size { count: 0, bytes: 0 };
+    let mut size = Size::default();
     for k in 0..functions.count {
         let f = functions.get(k);
         if !f.is_over(limits) {
@@ -101,8 +101,7 @@ fn write_rows(w: &mut Writer<'_>, functions: Functions, limits: Limits)
     requires { Room (rows (recorded (limits_of limits) (functions_of gate functions.tree.now))) w.old }
     ensures { Writes (rows (recorded (limits_of limits) (functions_of gate functions.entry.tree.now))) w.old w.new }
 {
-    let mut ranking = Ranking::new(ByKey, functions, limits);
-    while let Some(f) = ranking.next() {
+    for f in Ranking::new(ByKey, functions, limits) {
         write_row(w, f);
     }
 }

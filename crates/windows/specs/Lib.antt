@@ -1,3 +1,2 @@
--- Numbers noted for the places of a part of a text.
+-- What is noted of the places of a part of a text.
 pub mod Window
-pub mod Notes

@@ -1,72 +1,79 @@
--- Numbers noted for the places of a part of a text, two for each. The first number tells where the part begins, the second how many places it has. The first
--- numbers of the places stand behind them, and the second ones 2048 further. The last number counts uses, and tells nothing of a place.
-use Rattle.std.specs.Prelude.{ℕ, ◌+◌, ◌-◌, ◌≤◌, ◌<◌, ◌≡◌, ◌⊎◌, List, length, get_or, set}
-use Rattle.std.proofs.Common.{subst, sym, ◌∙◌, refl, inl, inr, arith, length-set, get_or-set_other, get_or-set_same}
+-- What is noted of the places of a part of a text, and what stays of it.
+use Rattle.std.specs.Prelude.{ℕ, ◌+◌, ◌-◌, ◌≤◌, ◌≡◌, ◌≢◌, ◌⊎◌, Bool, true, false, List, cond, eqb, get_or, length, ltb, set}
+use Rattle.std.proofs.Common.{subst, sym, refl, inl, inr, arith, eqb-true, get_or-set_other, get_or-set_same, length-set, ltb-false, ltb-true}
+use Rattle.std.proofs.Math.ListN.{get_or-eq_default}
+use Rattle.std.proofs.lemmas.Bool.{eqb-false}
+use Rattle.windows.specs.declared.Note.{Note}
+use Rattle.windows.specs.declared.Note.TheVariants.{Nothing}
+use Rattle.windows.specs.declared.Stage.{Stage}
+use Rattle.windows.specs.declared.Stage.TheVariants.{Counting, Filled}
+use Rattle.windows.specs.declared.Window.{Window}
 
--- the two numbers of each place tell of it what they must
-pub record Noted (P : (at first second : ℕ) → Type 0) (m : List ℕ) : Type 0 where
-  pub room : length m ≡ 4099
-  pub most : get_or m 1 0 ≤ 2048
-  pub each : (i : ℕ) → i < get_or m 1 0 → P (get_or m 0 0 + i) (get_or m (2 + i) 0) (get_or m (2050 + i) 0)
+-- what is noted of a place: the note with its index, or nothing
+abbrev pub noted_in : Stage → List Note → (at : ℕ) → Note
+noted_in (Counting from count) notes at = Nothing
+noted_in (Filled from used) notes at = cond (ltb at from) Nothing (get_or notes (at - from) Nothing)
 
--- the numbers that are read for a place: its own, or 0
-abbrev pub Found : List ℕ → (at first second : ℕ) → Type 0
-Found m at first second =
-    ((first ≡ 0) × (second ≡ 0))
-    ⊎ ((get_or m 0 0 ≤ at) × (at - get_or m 0 0 < get_or m 1 0) × (first ≡ get_or m (2 + (at - get_or m 0 0)) 0) × (second ≡ get_or m (2050 + (at - get_or m 0 0)) 0))
+abbrev pub noted : Window → (at : ℕ) → Note
+noted w at = noted_in w.stage w.notes at
 
--- without places nothing is told
-pub noted_nothing : (P : (at first second : ℕ) → Type 0) (m : List ℕ) → length m ≡ 4099 → get_or m 1 0 ≡ 0 → Noted P m
-noted_nothing P m h e = record { room = h; most = omega arith; each = λ i l. absurd (omega arith) }
+-- a part that begins at a place is noted
+abbrev pub BeginsIn : (from : ℕ) → Stage → Type 0
+BeginsIn from (Counting place count) = from ≢ from
+BeginsIn from (Filled place used) = place ≡ from
 
--- what numbers that are read tell
-pub found-tells : (P : (at first second : ℕ) → Type 0) (m : List ℕ) (at first second : ℕ) → Noted P m → Found m at first second
-    → ((first ≡ 0) × (second ≡ 0)) ⊎ P at first second
-found-tells P m at first second n (inl z) = inl z
-found-tells P m at first second n (inr f) =
-    let i = at - get_or m 0 0 in
-    let e : get_or m 0 0 + i ≡ at = omega (arith, f.0) in
-    let own : P at (get_or m (2 + i) 0) (get_or m (2050 + i) 0) = subst (λ p. P p (get_or m (2 + i) 0) (get_or m (2050 + i) 0)) e (n.each i f.1) in
-    inr (subst (λ v. P at v second) (sym f.2) (subst (P at (get_or m (2 + i) 0)) (sym f.3) own))
+abbrev pub Begins : (from : ℕ) → Window → Type 0
+Begins from w = BeginsIn from w.stage
 
--- all numbers besides the last stay the same, or no place is left
-pub data Kept (m m' : List ℕ) : Type 0 where
-  all_stay : length m' ≡ 4099 → ((i : ℕ) → i < 4098 → get_or m' i 0 ≡ get_or m i 0) → Kept m m'
-  none_left : length m' ≡ 4099 → get_or m' 1 0 ≡ 0 → Kept m m'
+-- all notes stay, or none is left
+abbrev pub Kept : (w w' : Window) → Type 0
+Kept w w' = ((at : ℕ) → noted w' at ≡ noted w at) ⊎ ((at : ℕ) → noted w' at ≡ Nothing)
 
--- what the numbers tell of the places stays true
-pub noted-kept : (P : (at first second : ℕ) → Type 0) (m m' : List ℕ) → Noted P m → Kept m m' → Noted P m'
-noted-kept P m m' n (all_stay h same) =
-    let places : get_or m' 1 0 ≡ get_or m 1 0 = same 1 (omega arith) in
-    record {
-      room = h;
-      most = omega (arith, places, n.most);
-      each = λ i l.
-          let g : i < get_or m 1 0 = omega (arith, places, l) in
-          let r : i < 2048 = omega (arith, g, n.most) in
-          subst (λ a. P (a + i) (get_or m' (2 + i) 0) (get_or m' (2050 + i) 0)) (sym (same 0 (omega arith)))
-          (subst (λ v. P (get_or m 0 0 + i) v (get_or m' (2050 + i) 0)) (sym (same (2 + i) (omega (arith, r))))
-          (subst (P (get_or m 0 0 + i) (get_or m (2 + i) 0)) (sym (same (2050 + i) (omega (arith, r)))) (n.each i g)));
-    }
-noted-kept P m m' n (none_left h z) = noted_nothing P m' h z
+-- what is noted of each place tells of it what it must
+abbrev pub Noted : (P : (at : ℕ) → Note → Type 0) → Window → Type 0
+Noted P w = (at : ℕ) → P at (noted w at)
 
--- where nothing changes
-pub kept_all : (m : List ℕ) → length m ≡ 4099 → Kept m m
-kept_all m h = all_stay h (λ i l. refl)
+whether : (b : Bool) → (b ≡ true) ⊎ (b ≡ false)
+whether true = inl refl
+whether false = inr refl
 
--- where only the last number changes
-pub kept_last : (m : List ℕ) (used : ℕ) → length m ≡ 4099 → Kept m (set m 4098 used)
-kept_last m used h = all_stay (length-set m 4098 used ∙ h) (λ i l. get_or-set_other m 4098 i used 0 (λ e. omega (arith, e, l)))
+-- where nothing need be told of a place of which nothing is noted
+module _ (P : (at : ℕ) → Note → Type 0) (none : (at : ℕ) → P at Nothing) where
+  pub noted_nothing : (w : Window) → ((at : ℕ) → noted w at ≡ Nothing) → Noted P w
+  noted_nothing w z at = subst (P at) (sym (z at)) (none at)
 
--- where a search is counted no place is left
-counted_none : (m : List ℕ) (count : ℕ) → length m ≡ 4099 → (length (set (set m 1 0) 2 count) ≡ 4099) × (get_or (set (set m 1 0) 2 count) 1 0 ≡ 0)
-counted_none m count h = (
-  length-set (set m 1 0) 2 count ∙ length-set m 1 0 ∙ h,
-  get_or-set_other (set m 1 0) 2 1 count 0 (λ e. omega (arith, e)) ∙ get_or-set_same m 1 0 0 (omega (arith, h)),
-)
+  -- what stays tells what it told
+  pub noted_kept : (w w' : Window) → Noted P w → Kept w w' → Noted P w'
+  noted_kept w w' t (inl same) at = subst (P at) (sym (same at)) (t at)
+  noted_kept w w' t (inr gone) at = noted_nothing w' gone at
 
-pub kept_more : (m : List ℕ) (count : ℕ) → length m ≡ 4099 → Kept m (set (set m 1 0) 2 count)
-kept_more m count h = let l = counted_none m count h in none_left l.0 l.1
+  -- one note more
+  put_in : (notes : List Note) (i k at : ℕ) (n : Note) → (k ≡ i → P at n) → P at (get_or notes k Nothing) → P at (get_or (set notes i n) k Nothing)
+  put_in notes i k at n here there =
+      elim (whether (eqb k i)) [
+        | inr a ↦ subst (P at) (sym (get_or-set_other notes i k n Nothing (eqb-false k i a))) there
+        | inl a ↦ elim (whether (ltb i (length notes))) [
+          | inl t ↦
+              let e = eqb-true k i a in
+              subst (λ j. P at (get_or (set notes i n) j Nothing)) (sym e) (subst (P at) (sym (get_or-set_same notes i n Nothing (ltb-true i (length notes) t))) (here e))
+          | inr t ↦
+              let e = eqb-true k i a in
+              let l : length (set notes i n) ≤ k = omega (arith, length-set notes i n, ltb-false i (length notes) t, e) in
+              subst (P at) (sym (get_or-eq_default (set notes i n) Nothing l)) (none at)
+        ]
+      ]
 
-pub kept_first : (m : List ℕ) (at count : ℕ) → length m ≡ 4099 → Kept m (set (set (set m 0 at) 1 0) 2 count)
-kept_first m at count h = let l = counted_none (set m 0 at) count (length-set m 0 at ∙ h) in none_left l.0 l.1
+  put_at : (from : ℕ) (stage : Stage) (notes : List Note) (i : ℕ) (n : Note) → BeginsIn from stage → P (from + i) n → ((at : ℕ) → P at (noted_in stage notes at)) → (at : ℕ)
+      → P at (noted_in stage (set notes i n) at)
+  put_at from (Counting place count) notes i n b h t at = absurd (b refl)
+  put_at from (Filled place used) notes i n b h t at =
+      elim (whether (ltb at place)) [
+        | inl l ↦ subst (λ c. P at (cond c Nothing (get_or (set notes i n) (at - place) Nothing))) (sym l) (none at)
+        | inr l ↦
+            let own : at - place ≡ i → P at n = λ e. let d : from + i ≡ at = omega (arith, ltb-false at place l, e, b) in subst (λ p. P p n) d h in
+            let old : P at (get_or notes (at - place) Nothing) = subst (λ c. P at (cond c Nothing (get_or notes (at - place) Nothing))) l (t at) in
+            subst (λ c. P at (cond c Nothing (get_or (set notes i n) (at - place) Nothing))) (sym l) (put_in notes i (at - place) at n own old)
+      ]
+
+  pub noted_put : (w : Window) (from i : ℕ) (n : Note) → Begins from w → P (from + i) n → Noted P w → Noted P (record w { notes = set w.notes i n })
+  noted_put w from i n b h t at = put_at from w.stage w.notes i n b h t at

@@ -2,8 +2,7 @@
 use Rattle.std.proofs.Common.{drop}
 use Rattle.listing.specs.Writes.{Remains}
 use Rattle.listed_keys.specs.KeyLines.{key_lines}
-use Rattle.sorted_keys.specs.Held.{keys_of}
 use Rattle.batches.proofs.write_batch.Given as goal
 
 abbrev pub invariant-loop-i : goal.invariant-loop-i
-invariant-loop-i l = Remains (key_lines (drop l.i (keys_of l.lines l.keys))) (key_lines (keys_of l.lines l.keys)) l.initial.w l.w
+invariant-loop-i l = Remains (key_lines (drop l.i l.keys.keys)) (key_lines l.keys.keys) l.initial.w l.w

@@ -1,22 +1,25 @@
--- The iterator gives the next sixteen bytes of the text.
-use Rattle.std.proofs.Common.{◌≡◌, ◌++◌, length, drop, arith, sym, ◌∙◌, true}
-use Rattle.blocks.proofs.Pieces.{rest_is, fits, every_next}
+-- A block is passed only where each byte of it passes.
+use Rattle.std.proofs.Common.{arith, true}
+use Rattle.blocks.proofs.Pieces.{passed_further}
 use Rattle.blocks.proofs.past_while.Goals as goal
+use Rattle.blocks.proofs.past_while.Goals.{else-loop-at-test, then-loop-at-test+else-s-at-lt-WIDTH+else-not-passes+else-at-end-at-gt16}
 
-pub loop-block-preserved : goal.loop-block-preserved
-loop-block-preserved g c =
-    let s = c.args.s.now in
-    let at = c.loop-block.at in
-    let x = c.in-Some.block.now in
-    let rest = c.next.new.self.rest.now in
-    let n : length x ≡ 16 = c.in-Some.ensures.steps.1.1 ∙ c.loop-block.invariant.size in
-    let e : drop at s ≡ x ++ rest = sym c.loop-block.invariant.rest ∙ c.in-Some.ensures.steps.1.0 in
+pub loop-at-preserved : goal.loop-at-preserved
+loop-at-preserved g c =
+    let a = c.args in
+    let l = c.loop-at in
     record {
-      can = omega (arith, c.in-Some.ensures.steps.0);
-      finite = _;
-      size = omega (arith, c.in-Some.ensures.steps.0);
-      low = omega arith;
-      high = fits s x rest at 16 e n c.loop-block.invariant.high;
-      rest = rest_is s x rest at 16 e n;
-      passed = every_next s x rest at 16 e n (λ b. g.F.Fn.post c.args.test (b, tt) true) c.args.from c.loop-block.invariant.passed (c.every.ensures c.if-not-every.false);
+      low = omega (arith, l.invariant.low);
+      high = omega (arith, c.if-s-at-lt-WIDTH.false, c.loop-at-test.true);
+      passed = passed_further (λ b. g.F.Fn.post a.test (b, tt) true) a.s.now a.from l.at 16 l.invariant.passed (c.passes.ensures c.if-not-passes.false);
     }
+
+pub returns-clause-passed : goal.returns-clause-passed
+returns-clause-passed g c k low high =
+    let a = c.args in
+    let l = c.loop-at in
+    elim c.loop-at-test.branch [
+      | else-loop-at-test w ↦ l.invariant.passed k low (omega (arith, w.loop-at-test.false, high))
+      | then-loop-at-test+else-s-at-lt-WIDTH+else-not-passes+else-at-end-at-gt16 w ↦
+          passed_further (λ b. g.F.Fn.post a.test (b, tt) true) a.s.now a.from l.at 16 l.invariant.passed (w.passes.ensures w.if-not-passes.false) k low (omega (arith, high))
+    ]

@@ -1,13 +1,14 @@
 -- `chunks::body_sum` meets its contract: at each turn the sums are those of the bytes before the place.
 use Prim.Native.Nat.{◌-◌, ◌+◌}
 use native.Mathlib.Omega.{arith}
-use Rattle.chunks.specs.Sums.{body-next, body-none, within_more}
+use Rattle.chunks.specs.Sums.{body-next, body-none, within_more, within_none}
 use Rattle.chunks.proofs.body_sum.Goals as goal
 
 pub loop-at-init : goal.loop-at-init
 loop-at-init c =
-    let w = c.nothing-c.ensures in
-    (within_more 0 _ _ (omega arith) w, body-none c.args.s.now c.args.from c.nothing-c.result w)
+    let e = c.default-c.ensures in
+    let w = within_none c.default-c.result e.0 e.1.0 e.1.1.0 e.1.1.1.0 e.1.1.1.1 in
+    (within_more 0 _ _ (omega arith) w, body-none c.args.s.now c.args.from c.default-c.result w)
 
 pub loop-at-preserved : goal.loop-at-preserved
 loop-at-preserved c =

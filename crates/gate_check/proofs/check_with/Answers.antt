@@ -18,35 +18,36 @@ returns-then-baseline-gt-MAX_BASELINE c =
     long_checks (limits_of a.limits) a.tree.now a.baseline.now a.work.now a.lent.now a.output.now _ _
     (omega (arith, c.if-baseline-gt-MAX_BASELINE.true)) (c.long_refusal.ensures.first, number_least e, c.long_refusal.ensures.most) (refuses e)
 
-pub returns-in_err-functions : goal.returns-in_err-functions
-returns-in_err-functions c =
+pub returns-in_err-count : goal.returns-in_err-count
+returns-in_err-count c =
     let p = err_from_is_err_and c.from_residual.result c.from_residual.ensures.1 in
     let a = c.args in
-    let e = c.in_err-functions.field-0.0 in
+    let e = c.in_err-count.field-0.0 in
     rw (p.1, p.2) (refused_checks (limits_of a.limits) a.tree.now a.baseline.now a.work.now a.lent.now a.output.now c.if-baseline-gt-MAX_BASELINE.false
-    _ _ _ c.in_err-functions.ensures _ (number_least e) (refuses e))
+    _ _ _ c.in_err-count.ensures _ (number_least e) (refuses e))
 
-pub invariant_of-fs : goal.invariant_of-fs
-invariant_of-fs c =
+pub invariant_of-functions : goal.invariant_of-functions
+invariant_of-functions c =
     let a = c.args in
     let L = limits_of a.limits in
     let short = c.if-baseline-gt-MAX_BASELINE.false in
     record {
-      stand = scan_stands L a.tree.now a.baseline.now a.work.now a.lent.now a.output.now short _ _ _ c.in_ok-functions.ensures refl;
-      all = scan_count L a.tree.now a.baseline.now a.work.now a.lent.now a.output.now short _ _ _ c.in_ok-functions.ensures refl;
+      stand = scan_stands L a.tree.now a.baseline.now a.work.now a.lent.now a.output.now short _ _ _ c.in_ok-count.ensures refl;
+      all = scan_count L a.tree.now a.baseline.now a.work.now a.lent.now a.output.now short _ _ _ c.in_ok-count.ensures refl;
     }
 
-pub slice_bounds-told-end : goal.slice_bounds-told-end
-slice_bounds-told-end c = sym (length-take-le _ _ c.read_length.ensures.0)
+pub slice_bounds-read-end : goal.slice_bounds-read-end
+slice_bounds-read-end c = sym (length-take-le _ _ c.read_length.ensures.0)
+
+pub invariant_of-read : goal.invariant_of-read
+invariant_of-read c = record { short = omega (arith, c.if-baseline-gt-MAX_BASELINE.false, length-take c.read_length.result c.args.baseline.now) }
 
 pub told-requires : goal.told-requires
-told-requires c =
-    let read = c.read_length in
-    record { text = read.ensures.1; short = omega (arith, c.if-baseline-gt-MAX_BASELINE.false, length-take read.result c.args.baseline.now) }
+told-requires c = c.read_length.ensures.1
 
 pub returns : goal.returns
 returns c =
     let read = c.read_length in
     let a = c.args in
     told_checks (limits_of a.limits) a.tree.now a.baseline.now a.work.now a.lent.now a.output.now c.if-baseline-gt-MAX_BASELINE.false
-    _ _ _ c.in_ok-functions.ensures refl _ (entries_of_lines (take read.result a.baseline.now)) _ read.ensures.2 c.told.ensures
+    _ _ _ c.in_ok-count.ensures refl _ (entries_of_lines (take read.result a.baseline.now)) _ read.ensures.2 c.told.ensures

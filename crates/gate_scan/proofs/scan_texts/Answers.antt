@@ -2,7 +2,7 @@
 -- put into what it was.
 use Prim.Native.Nat.{ℕ, ◌+◌, ◌-◌, ◌≤◌, ◌<◌}
 use mathlib.Core.Path.{◌≡◌, refl, ap, ap₂, sym, ◌∙◌}
-use mathlib.Core.List.{List, [], map}
+use mathlib.Core.List.{List, map}
 use native.Mathlib.Omega.{arith}
 use lib.ListN.{length, take, drop, length-take, length-drop}
 use Rattle.text_rules.specs.Search.{part}
@@ -14,7 +14,6 @@ use Rattle.gate_rules.proofs.FileLaws.{count-inside, file-at, span-is}
 use Rattle.gate_rules.specs.RecordForms.{put_records}
 use Rattle.gate_rules.specs.Records.{record_bytes, records, records_of_files}
 use Rattle.gate_rules.specs.Tree.{entry_at, file_count, sources, sources_from, text_in, text_length, text_offset}
-use Rattle.signatures.specs.Signatures.{lent_rooms}
 use Rattle.gate_scan.specs.Told.{TextsIn, left-count, left_end, left-put, records-kept, records_for}
 use Rattle.gate_scan.proofs.scan_texts.Invariants.{rest}
 use Rattle.gate_scan.proofs.scan_texts.Goals as goal
@@ -45,7 +44,7 @@ loop-file-init c =
     let e : n - 0 ≡ file_count tree = omega (arith, c.file_count-n.ensures) in
     let all : rest tree n 0 ≡ records_of_files (sources_from tree (file_count tree) 0 4) = ap (λ m. records_of_files (sources_from tree m 0 4)) e in
     let same = ap (λ rs. put_records 0 (map record_bytes rs) c.args.lent.now) all in
-    (omega arith, refl, omega arith, omega (arith, ap length all), same, lent_rooms [] _ (c.new-notes.ensures []))
+    (omega arith, refl, omega arith, omega (arith, ap length all), same)
 
 pub text_span-text-requires : goal.text_span-text-requires
 text_span-text-requires c =
@@ -62,7 +61,7 @@ scan_text-done-requires c =
     let f = file-at tree c.loop-file.file c.requires.0 (omega (arith, c.file_count-n.ensures)) in
     let few-files = f.number_small in
     let inside = part-size c.text_span-text.result.start c.text_span-text.result.end c.args.work.now t.2 in
-    (omega arith, omega (arith, inside, t.3, c.requires.1), omega (arith, c.loop-file.invariant.2), c.loop-file.invariant.5)
+    (omega arith, omega (arith, inside, t.3, c.requires.1), omega (arith, c.loop-file.invariant.2))
 
 pub loop-file-preserved : goal.loop-file-preserved
 loop-file-preserved c =
@@ -84,7 +83,6 @@ loop-file-preserved c =
       omega (arith, c.loop-file.invariant.2, few tree k, c.requires.1),
       omega (arith, c.loop-file.invariant.3, left-count tree n k h),
       ap₂ (λ m buffer. put_records m (map record_bytes (rest tree n (k + 1))) buffer) size put ∙ sym (left-put tree n k h done lent) ∙ c.loop-file.invariant.4,
-      c.scan_text-done.ensures.2,
     )
 
 pub shape_of-lent : goal.shape_of-lent

@@ -7,7 +7,6 @@ use lib.ListN.{length}
 use Rattle.gate_rules.specs.RecordForms.{put_records}
 use Rattle.gate_rules.specs.Records.{record_bytes, records, records_of_files}
 use Rattle.gate_rules.specs.Tree.{sources_from}
-use Rattle.signatures.specs.Signatures.{Rooms}
 use Rattle.gate_scan.proofs.scan_texts.Given as goal
 
 abbrev pub rest : List ℕ → ℕ → ℕ → List (List ℕ)
@@ -20,4 +19,3 @@ invariant-loop-file l =
     × (l.done ≤ l.file * 16777216)
     × (l.done + length (rest l.tree l.n l.file) ≡ length (records l.tree))
     × (put_records l.done (map record_bytes (rest l.tree l.n l.file)) l.lent ≡ put_records 0 (map record_bytes (records l.tree)) l.initial.lent)
-    × Rooms l.notes

@@ -1,140 +1,77 @@
 -- What is counted, and what the lines still to come add, is the whole.
-use Rattle.std.proofs.Common.{◌+◌, ◌≤◌, ap, subst, sym, ◌∙◌, inl, inr, map, length, get_or, arith, eqb}
-use borrow.Author.Tests.{eqb-false, eqb-true}
-use Rattle.std.specs.Prelude.{None}
-use Rattle.std.proofs.Math.Option.{none as nobody}
-use Rattle.text_rules.specs.BytesLaws.{whether}
-use Rattle.gate_rules.specs.Functions.{key}
-use Rattle.gate_rules.specs.Gate.{gate}
-use Rattle.gate_rules.specs.Scan.{functions_of}
-use Rattle.baseline.specs.Ordered.{keys-end, keys_in}
-use Rattle.listed_keys.specs.KeyLines.{bytes_step, count-step, key_lines, none_bytes}
-use Rattle.listed_keys.specs.Wholes.{note_keys, plain-count}
-use Rattle.in_order.specs.InOrder.{added_in}
-use Rattle.in_order.specs.Passing.{come_all, come_end, come_line, come_small, to_come}
-use Rattle.in_order.specs.Rise.{Risen, risen_end, risen_next}
-use Rattle.in_order.specs.Whole.{in_order-all, plain-next}
+use Rattle.std.proofs.Common.{◌≡◌, refl, ◌≢◌, ℕ, true, ap, sym, ◌∙◌, get_or, arith}
+use Rattle.std.specs.Option.{is_some}
+use Rattle.text_rules.specs.BytesLaws.{true_false}
+use Rattle.baseline.specs.Ordered.{fallen}
+use Rattle.key_lines.specs.Keys.{is_plain, text_of}
+use Rattle.in_order.specs.Known.{known_of}
+use Rattle.in_order.proofs.Measuring.{measured-next, measured-rises, measured-sizes, measured-whole, run-fits, step-fits}
+use Rattle.in_order.proofs.measure.Goals.{then-whole, else-whole}
 use Rattle.in_order.proofs.measure.Goals as goal
 
 pub plus-requires-clause-count_fits : goal.plus-requires-clause-count_fits
 plus-requires-clause-count_fits c =
-    let tree = c.args.fs.tree.now in
-    let lines = c.args.lines.now in
-    let last = c.loop-from.last.key in
-    let here = c.line_at-here.result.key in
-    let end = c.line_at-here.result.end in
-    let read = c.line_at-here.ensures.0 in
-    let next = c.after-seen.result.key in
-    let step = come_line tree lines last here next c.loop-from.from end read.ends read.key-is c.after-seen.ensures.0 in
-    let all = to_come tree lines last c.loop-from.from in
-    let mine = added_in tree lines last here in
-    let rest = to_come tree lines next (end + 1) in
-    omega (arith, count-step all mine rest step, c.size_of-mine.ensures.0, ap length c.added.ensures.1, c.loop-from.invariant.count, (come_small tree lines c.requires.0).0, c.requires.1)
+    let s = c.args.baseline.lines.now in
+    let fits = step-fits c.args.functions.tree.now s _ c.next.new.self c.next.new.self _ c.loop-step.size c.size.result c.size.result c.in-Some.step c.loop-step.invariant c.in-Some.ensures.steps
+    c.size.ensures.count c.size.ensures.bytes c.requires in
+    omega (arith, fits, c.args.baseline.short)
 
 pub plus-requires-clause-bytes_fit : goal.plus-requires-clause-bytes_fit
 plus-requires-clause-bytes_fit c =
-    let tree = c.args.fs.tree.now in
-    let lines = c.args.lines.now in
-    let last = c.loop-from.last.key in
-    let here = c.line_at-here.result.key in
-    let end = c.line_at-here.result.end in
-    let read = c.line_at-here.ensures.0 in
-    let next = c.after-seen.result.key in
-    let step = come_line tree lines last here next c.loop-from.from end read.ends read.key-is c.after-seen.ensures.0 in
-    let all = to_come tree lines last c.loop-from.from in
-    let mine = added_in tree lines last here in
-    let rest = to_come tree lines next (end + 1) in
-    omega (arith, bytes_step all mine rest step, c.size_of-mine.ensures.1, ap (λ ks. length (key_lines ks)) c.added.ensures.1, c.loop-from.invariant.bytes, (come_small tree lines c.requires.0).1, c.requires.1)
+    let s = c.args.baseline.lines.now in
+    let fits = step-fits c.args.functions.tree.now s _ c.next.new.self c.next.new.self _ c.loop-step.size c.size.result c.size.result c.in-Some.step c.loop-step.invariant c.in-Some.ensures.steps
+    c.size.ensures.count c.size.ensures.bytes c.requires in
+    omega (arith, fits, c.args.baseline.short)
 
 pub plus-size-requires-clause-count_fits : goal.plus-size-requires-clause-count_fits
 plus-size-requires-clause-count_fits c =
-    let tree = c.args.fs.tree.now in
-    let lines = c.args.lines.now in
-    let last = c.loop-from.last.key in
-    let here = c.line_at-here.result.key in
-    let end = c.line_at-here.result.end in
-    let read = c.line_at-here.ensures.0 in
-    let next = c.after-seen.result.key in
-    let step = come_line tree lines last here next c.loop-from.from end read.ends read.key-is c.after-seen.ensures.0 in
-    let all = to_come tree lines last c.loop-from.from in
-    let mine = added_in tree lines last here in
-    let rest = to_come tree lines next (end + 1) in
-    omega (arith, count-step all mine rest step, c.size_of-mine.ensures.0, ap length c.added.ensures.1, c.run_at-run.ensures.counts, c.loop-from.invariant.count, (come_small tree lines c.requires.0).0, c.requires.1, c.plus.ensures.count)
+    let s = c.args.baseline.lines.now in
+    let fits = run-fits c.args.functions.tree.now s _ c.next.new.self c.run.new.self _ c.loop-step.size c.size.result c.run.result c.in-Some.step c.loop-step.invariant c.in-Some.ensures.steps
+    c.size.ensures.count c.size.ensures.bytes c.run.ensures c.requires in
+    omega (arith, fits, c.plus.ensures.count, c.args.baseline.short)
 
 pub plus-size-requires-clause-bytes_fit : goal.plus-size-requires-clause-bytes_fit
 plus-size-requires-clause-bytes_fit c =
-    let tree = c.args.fs.tree.now in
-    let lines = c.args.lines.now in
-    let last = c.loop-from.last.key in
-    let here = c.line_at-here.result.key in
-    let end = c.line_at-here.result.end in
-    let read = c.line_at-here.ensures.0 in
-    let next = c.after-seen.result.key in
-    let step = come_line tree lines last here next c.loop-from.from end read.ends read.key-is c.after-seen.ensures.0 in
-    let all = to_come tree lines last c.loop-from.from in
-    let mine = added_in tree lines last here in
-    let rest = to_come tree lines next (end + 1) in
-    omega (arith, bytes_step all mine rest step, c.size_of-mine.ensures.1, ap (λ ks. length (key_lines ks)) c.added.ensures.1, c.run_at-run.ensures.sizes, c.loop-from.invariant.bytes, (come_small tree lines c.requires.0).1, c.requires.1, c.plus.ensures.bytes)
+    let s = c.args.baseline.lines.now in
+    let fits = run-fits c.args.functions.tree.now s _ c.next.new.self c.run.new.self _ c.loop-step.size c.size.result c.run.result c.in-Some.step c.loop-step.invariant c.in-Some.ensures.steps
+    c.size.ensures.count c.size.ensures.bytes c.run.ensures c.requires in
+    omega (arith, fits, c.plus.ensures.bytes, c.args.baseline.short)
 
-pub loop-from-preserved : goal.loop-from-preserved
-loop-from-preserved c =
-    let tree = c.args.fs.tree.now in
-    let lines = c.args.lines.now in
-    let last = c.loop-from.last.key in
-    let here = c.line_at-here.result.key in
-    let end = c.line_at-here.result.end in
-    let read = c.line_at-here.ensures.0 in
-    let next = c.after-seen.result.key in
-    let step = come_line tree lines last here next c.loop-from.from end read.ends read.key-is c.after-seen.ensures.0 in
-    let all = to_come tree lines last c.loop-from.from in
-    let mine = added_in tree lines last here in
-    let rest = to_come tree lines next (end + 1) in
-    let now = c.loop-from.invariant in
-    let pass = c.run_at-run.ensures in
-    let size = c.size_of-mine.ensures in
-    let up = subst (λ key. Risen lines key (end + 1)) (sym c.after-seen.ensures.0)
-    (risen_next lines last here c.loop-from.from end now.risen read.ends c.line_at-here.ensures.1.inside read.key-is (sym c.falls.ensures ∙ c.if-falls.false)) in
+pub loop-step-preserved : goal.loop-step-preserved
+loop-step-preserved c =
+    let s = c.args.baseline.lines.now in
+    let now = c.loop-step in
+    let step = c.in-Some.step in
+    let h = c.in-Some.ensures.steps in
+    let up = ap (λ o. fallen (text_of o) (text_of step.found.key)) (sym h.before) ∙ sym c.falls.ensures ∙ c.if-falls.false in
+    let stays : c.if-whole.whole ≡ true → (now.whole ≡ true) × (get_or s now.walk.from 0 ≢ 35 → (is_plain step.found.key ≡ true) × (is_some step.added ≡ true)) =
+    λ e. elim c.if-whole.branch [
+      | then-whole w ↦ (w.if-whole.true, λ n. w.stays_whole-whole.ensures (sym w.whole-is ∙ e) (λ q. n (ap (λ (i : ℕ). get_or s i 0) (sym h.begins) ∙ q)))
+      | else-whole w ↦ absurd (true_false _ e (w.whole-is ∙ w.if-whole.false))
+    ] in
+    measured-next c.args.functions.tree.now s now.walk c.next.new.self c.run.new.self now.whole now.size c.size.result c.run.result step now.invariant h
+    c.size.ensures.count c.size.ensures.bytes c.run.ensures c.plus-size.result
+    (omega (arith, c.plus-size.ensures.count, c.plus.ensures.count)) (omega (arith, c.plus-size.ensures.bytes, c.plus.ensures.bytes)) c.if-whole.whole up stays
+
+pub invariant_of-result : goal.invariant_of-result
+invariant_of-result c =
+    let now = c.loop-step in
+    let s = c.args.baseline.lines.now in
+    let tree = c.args.functions.tree.now in
+    let over = c.in_default.ensures.steps in
+    let rises = measured-rises tree s now.walk now.whole now.size now.invariant over in
     record {
-      knows = pass.knows;
-      risen = pass.rises up;
-      count = omega (arith, now.count, size.0, ap length c.added.ensures.1, count-step all mine rest step, pass.counts, c.plus.ensures.count, c.plus-size.ensures.count);
-      bytes = omega (arith, now.bytes, size.1, ap (λ ks. length (key_lines ks)) c.added.ensures.1, bytes_step all mine rest step, pass.sizes, c.plus.ensures.bytes, c.plus-size.ensures.bytes);
-      plain = λ e.
-          let w = c.stays_whole-whole.ensures e in
-          let before = now.plain w.0 in
-          let first = get_or lines c.loop-from.from 0 in (
-            pass.plain (plain-next lines c.loop-from.from end read.ends before.0 (λ n. read.plain_at (w.1 n).0)),
-            elim (whether (eqb first 35)) [
-              | inl t ↦ omega (arith, before.1, pass.keys, ap length (note_keys lines c.loop-from.from end c.loop-from-test.true (eqb-true first 35 t) read.ends), c.plus.ensures.count, c.plus-size.ensures.count)
-              | inr t ↦
-                  let adds = w.1 (eqb-false first 35 t) in
-                  omega (arith, before.1, adds.1, pass.keys, plain-count lines c.loop-from.from (read.plain_at adds.0) end read.ends, c.plus.ensures.count, c.plus-size.ensures.count)
-            ],
-          );
+      known = known_of tree s now.whole c.order_of.result c.order_of.ensures rises (measured-whole tree s now.walk now.whole now.size now.invariant over);
     }
 
 pub returns : goal.returns
 returns c =
-    let tree = c.args.fs.tree.now in
-    let lines = c.args.lines.now in
-    let now = c.loop-from.invariant in
-    let none = come_end tree lines c.loop-from.last.key c.loop-from.from c.loop-from-test.false in
-    let up = risen_end lines c.loop-from.last.key c.loop-from.from c.loop-from-test.false now.risen in
-    let all = come_all tree lines up in
-    let small = come_small tree lines c.requires.0 in (
-      up,
-      (
-        omega (arith, now.count, ap length none, ap length all),
-        omega (arith, now.bytes, none_bytes (to_come tree lines c.loop-from.last.key c.loop-from.from) none, ap (λ ks. length (key_lines ks)) all),
-        omega (arith, now.count, small.0, c.requires.1),
-        omega (arith, now.bytes, small.1, c.requires.1),
-      ),
-      λ e.
-          let w = now.plain e in
-          let ends = keys-end lines c.loop-from.from c.loop-from-test.false in
-          let enough : length (keys_in lines) ≤ length (to_come tree lines None 0) = omega (arith, now.count, ap length none, w.1, ap length ends) in
-          record {
-            all_plain = λ i b h. w.0 i b (omega (arith, h, c.loop-from-test.false));
-            all-stale = sym all ∙ in_order-all (map key (functions_of gate tree)) nobody (keys_in lines) enough;
-          },
+    let now = c.loop-step in
+    let s = c.args.baseline.lines.now in
+    let tree = c.args.functions.tree.now in
+    let over = c.in_default.ensures.steps in (
+      refl,
+      refl,
+      measured-rises tree s now.walk now.whole now.size now.invariant over,
+      measured-sizes tree s now.walk now.whole now.size now.invariant over c.requires c.args.baseline.short,
     )

@@ -1,59 +1,38 @@
 -- What a line adds is written, and what the lines behind it add remains.
-use Rattle.std.proofs.Common.{◌+◌, ◌++◌, ap, subst, sym, ◌∙◌}
-use Rattle.baseline.specs.Ordered.{one_key}
-use Rattle.baseline.specs.Reads.{key_in}
+use Rattle.std.proofs.Common.{ap, subst, sym, ◌∙◌}
 use Rattle.listing.specs.Writes.{Remains, remains_all, remains_next, remains_none, remains_room}
-use Rattle.listed_keys.specs.KeyLines.{key_lines, lines-append, none_lines}
-use Rattle.in_order.specs.InOrder.{added_in}
-use Rattle.in_order.specs.Passing.{come_all, come_end, come_line, to_come}
-use Rattle.in_order.specs.Paths.{knows_start}
+use Rattle.listed_keys.specs.KeyLines.{key_lines, none_lines}
 use Rattle.in_order.specs.StaleKeys.{stale_in}
+use Rattle.in_order.specs.Walks.{come_of, come_start, come-over, step-lines, step-none}
 use Rattle.in_order.proofs.write_each.Goals as goal
 
-pub loop-from-init : goal.loop-from-init
-loop-from-init c =
+pub loop-step-init : goal.loop-step-init
+loop-step-init c =
     let a = c.args in
-    let all = come_all a.fs.tree.now a.lines.now c.requires.0 in
-    record {
-      knows = knows_start a.fs.tree.now a.lines.now;
-      rest = subst (λ ks. Remains (key_lines ks) (key_lines (stale_in a.fs.tree.now a.lines.now)) a.w.now a.w.now) (sym all) (remains_all c.requires.1);
-    }
+    let whole = key_lines (stale_in a.fs.tree.now a.lines.now) in
+    let all = ap come_of c.into_iter-step-iterator.ensures.into_iter_gives ∙ come_start a.fs a.lines c.new-step-items.result c.new-step-items.ensures c.requires.0 in
+    subst (λ ks. Remains (key_lines ks) whole a.w.now a.w.now) (sym all) (remains_all c.requires.1)
 
-pub write_one-requires : goal.write_one-requires
-write_one-requires c =
-    let tree = c.args.fs.tree.now in
-    let lines = c.args.lines.now in
-    let last = c.loop-from.last.key in
-    let here = c.line_at-here.result.key in
-    let end = c.line_at-here.result.end in
-    let read = c.line_at-here.ensures.0 in
-    let next = c.after-seen.result.key in
-    let step = come_line tree lines last here next c.loop-from.from end read.ends read.key-is c.after-seen.ensures.0 in
-    let all = to_come tree lines last c.loop-from.from in
-    let mine = added_in tree lines last here in
-    let rest = to_come tree lines next (end + 1) in
-    let own = one_key (key_in lines c.added.result) in
-    let more = ap key_lines (step ∙ ap (λ ks. ks ++ rest) (sym c.added.ensures.1)) ∙ lines-append own rest in
-    (c.added.ensures.0, remains_room (key_lines own) (key_lines rest) c.loop-from.invariant.rest more)
+pub write_key-requires : goal.write_key-requires
+write_key-requires c =
+    let now = c.loop-step.step-iterator in
+    let next = c.next.new.self in
+    let more = step-lines now c.in-Some.step next c.in-Some.ensures.steps c.in-Some-added.key c.in-Some-added.is in
+    remains_room _ (key_lines (come_of next)) c.loop-step.invariant more
 
-pub loop-from-preserved : goal.loop-from-preserved
-loop-from-preserved c =
-    let tree = c.args.fs.tree.now in
-    let lines = c.args.lines.now in
-    let last = c.loop-from.last.key in
-    let here = c.line_at-here.result.key in
-    let end = c.line_at-here.result.end in
-    let read = c.line_at-here.ensures.0 in
-    let next = c.after-seen.result.key in
-    let step = come_line tree lines last here next c.loop-from.from end read.ends read.key-is c.after-seen.ensures.0 in
-    let all = to_come tree lines last c.loop-from.from in
-    let mine = added_in tree lines last here in
-    let rest = to_come tree lines next (end + 1) in
-    let own = one_key (key_in lines c.added.result) in
-    let more = ap key_lines (step ∙ ap (λ ks. ks ++ rest) (sym c.added.ensures.1)) ∙ lines-append own rest in
-    record { knows = c.after-seen.ensures.1; rest = remains_next (key_lines rest) c.loop-from.invariant.rest more c.write_one.ensures }
+pub loop-step-preserved-in-Some-added : goal.loop-step-preserved-in-Some-added
+loop-step-preserved-in-Some-added c =
+    let now = c.loop-step.step-iterator in
+    let next = c.next.new.self in
+    let more = step-lines now c.in-Some.step next c.in-Some.ensures.steps c.in-Some-added.key c.in-Some-added.is in
+    remains_next (key_lines (come_of next)) c.loop-step.invariant more c.write_key.ensures
+
+pub loop-step-preserved : goal.loop-step-preserved
+loop-step-preserved c =
+    let a = c.args in
+    let whole = key_lines (stale_in a.fs.tree.now a.lines.now) in
+    let same = step-none c.loop-step.step-iterator c.in-Some.step c.next.new.self c.in-Some.ensures.steps c.in_default.is in
+    subst (λ ks. Remains (key_lines ks) whole a.w.now c.loop-step.w) same c.loop-step.invariant
 
 pub returns : goal.returns
-returns c =
-    let none = come_end c.args.fs.tree.now c.args.lines.now c.loop-from.last.key c.loop-from.from c.loop-from-test.false in
-    remains_none c.loop-from.invariant.rest (none_lines _ none)
+returns c = remains_none c.loop-step.invariant (none_lines _ (come-over c.loop-step.step-iterator c.in-None.ensures.steps))

@@ -1,10 +1,18 @@
--- A line that is read in one walk is all that stands up to its end, and what it has in common with the last key does not go past that.
-use Rattle.key_lines.specs.PlainKeys.{plain-finds, plain_of_line}
+-- What follows from the start of the line on begins with its key.
+use Rattle.std.proofs.Common.{length, sym}
+use Rattle.text_rules.specs.Search.{part}
+use Rattle.key_lines.specs.Keys.{text_of}
+use Rattle.key_lines.specs.Meets.{part-begins}
+use Rattle.key_lines.proofs.LineKeys.{found-meets, plain-inside, plain-inside-key}
 use Rattle.key_lines.proofs.line_at.Goals as goal
 
-pub returns-in-Some : goal.returns-in-Some
-returns-in-Some c =
-    let a = c.args in (
-      plain_of_line a.lines.now a.last.key a.from _ _ c.in-Some.l c.in-Some.ensures c.common_with-common.ensures c.min.ensures,
-      plain-finds a.lines.now a.last.key a.from _ _ c.in-Some.l c.in-Some.ensures c.common_with-common.ensures c.min.ensures,
-    )
+pub invariant_of-result : goal.invariant_of-result
+invariant_of-result c =
+    let s = c.args.lines.now in
+    let line = part c.args.from (length s) s in
+    let begins = part-begins s c.args.from c.in-Some.l.name (plain-inside s c.args.from _ _ _ c.in-Some.ensures) in
+    let own = rw (sym c.plain.ensures.0) at begins in
+    record {
+      inside = plain-inside-key s c.args.from _ _ _ c.in-Some.ensures c.plain.result c.plain.ensures.0 c.plain.ensures.1;
+      meets = found-meets (text_of c.args.last) line _ c.common_with-common.result c.common_with-common.ensures own;
+    }

@@ -19,43 +19,38 @@ pub write_plain-requires-clause-inside : goal.write_plain-requires-clause-inside
 write_plain-requires-clause-inside c =
     let lines = c.args.lines.now in
     let from = c.args.from in
-    let p = c.requires.plain c.if-lines-from-eq-HASH.false in
-    let q = p.line in
-    let ends = ap (line_end lines) (sym (second-tab lines from p.path p.name p.end q)) ∙ rest-ends lines from p.path p.name p.end q in
+    let q = c.requires.plain c.if-lines-from-eq-HASH.false in
+    let ends = ap (line_end lines) (sym (second-tab lines from _ _ _ q)) ∙ rest-ends lines from _ _ _ q in
     omega (arith, ends, q.inside)
 
 pub write_plain-requires-clause-room : goal.write_plain-requires-clause-room
 write_plain-requires-clause-room c =
     let lines = c.args.lines.now in
     let from = c.args.from in
-    let p = c.requires.plain c.if-lines-from-eq-HASH.false in
-    let q = p.line in
-    let key = plain-key lines from p.path p.name p.end q ∙ ap (λ (j : ℕ). part from j lines ∷ []) (second-tab lines from p.path p.name p.end q) in
+    let q = c.requires.plain c.if-lines-from-eq-HASH.false in
+    let key = plain-key lines from _ _ _ q ∙ ap (λ (j : ℕ). part from j lines ∷ []) (second-tab lines from _ _ _ q) in
     omega (arith, c.requires.room, ap (λ ks. length (key_lines ks)) key)
 
 pub returns-clause-end : goal.returns-clause-end
 returns-clause-end c =
     let lines = c.args.lines.now in
     let from = c.args.from in
-    let p = c.requires.plain c.if-lines-from-eq-HASH.false in
-    let q = p.line in
-    let ends = ap (line_end lines) (sym (second-tab lines from p.path p.name p.end q)) ∙ rest-ends lines from p.path p.name p.end q in
+    let q = c.requires.plain c.if-lines-from-eq-HASH.false in
+    let ends = ap (line_end lines) (sym (second-tab lines from _ _ _ q)) ∙ rest-ends lines from _ _ _ q in
     c.write_plain.ensures.end ∙ ends ∙ q.ends
 
 pub returns-clause-high : goal.returns-clause-high
 returns-clause-high c =
     let lines = c.args.lines.now in
     let from = c.args.from in
-    let p = c.requires.plain c.if-lines-from-eq-HASH.false in
-    let q = p.line in
-    let ends = ap (line_end lines) (sym (second-tab lines from p.path p.name p.end q)) ∙ rest-ends lines from p.path p.name p.end q in
+    let q = c.requires.plain c.if-lines-from-eq-HASH.false in
+    let ends = ap (line_end lines) (sym (second-tab lines from _ _ _ q)) ∙ rest-ends lines from _ _ _ q in
     omega (arith, c.write_plain.ensures.end, ends, q.inside)
 
 pub returns-clause-written : goal.returns-clause-written
 returns-clause-written c =
     let lines = c.args.lines.now in
     let from = c.args.from in
-    let p = c.requires.plain c.if-lines-from-eq-HASH.false in
-    let q = p.line in
-    let key = plain-key lines from p.path p.name p.end q ∙ ap (λ (j : ℕ). part from j lines ∷ []) (second-tab lines from p.path p.name p.end q) in
+    let q = c.requires.plain c.if-lines-from-eq-HASH.false in
+    let key = plain-key lines from _ _ _ q ∙ ap (λ (j : ℕ). part from j lines ∷ []) (second-tab lines from _ _ _ q) in
     subst (λ ks. Writes (key_lines ks) c.args.w.now c.write_plain.new.w) (sym key) c.write_plain.ensures.written

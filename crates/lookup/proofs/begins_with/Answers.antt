@@ -6,26 +6,26 @@ use native.Mathlib.Omega.{arith}
 use lib.ListN.{length, length-append, take}
 use lib.Seq.{length-take-le}
 use Rattle.text_rules.specs.Bytes.{same}
-use Rattle.gate_rules.specs.Functions.{key_of}
+use Rattle.baseline.specs.Reads.{key_bytes}
 use Rattle.lookup.proofs.Begins.{other-front, short}
 use Rattle.lookup.proofs.begins_with.Goals as goal
 
 pub returns-then-line-path : goal.returns-then-line-path
 returns-then-line-path c =
-    let a = c.args in
-    λ e. short (key_of a.path.now a.name.now) a.line.now (omega (arith, length-append a.path.now (9 ∷ a.name.now)))
+    let k = c.args.sought in
+    λ e. short (key_bytes k) c.args.line.now (omega (arith, length-append k.path.now (9 ∷ k.name.now)))
 
 pub returns-then-line-path-2 : goal.returns-then-line-path-2
 returns-then-line-path-2 c =
-    let a = c.args in
-    λ e. short (key_of a.path.now a.name.now) a.line.now (omega (arith, length-append a.path.now (9 ∷ a.name.now)))
+    let k = c.args.sought in
+    λ e. short (key_bytes k) c.args.line.now (omega (arith, length-append k.path.now (9 ∷ k.name.now)))
 
-pub slice_bounds-is_key-end : goal.slice_bounds-is_key-end
-slice_bounds-is_key-end c = sym (length-take-le _ _ (omega arith))
+pub slice_bounds-is-end : goal.slice_bounds-is-end
+slice_bounds-is-end c = sym (length-take-le _ _ (omega arith))
 
 pub returns : goal.returns
 returns c =
-    let a = c.args in
-    let k = key_of a.path.now a.name.now in
-    let size : length k ≡ length a.path.now + 1 + length a.name.now = omega (arith, length-append a.path.now (9 ∷ a.name.now)) in
-    λ e. other-front k a.line.now (ap (λ i. same (take i a.line.now) k) size ∙ sym c.is_key.ensures ∙ e)
+    let k = c.args.sought in
+    let line = c.args.line.now in
+    let size : length (key_bytes k) ≡ length k.path.now + 1 + length k.name.now = omega (arith, length-append k.path.now (9 ∷ k.name.now)) in
+    λ e. other-front (key_bytes k) line (ap (λ i. same (take i line) (key_bytes k)) size ∙ sym c.is.ensures ∙ e)

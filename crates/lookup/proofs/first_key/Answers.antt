@@ -1,20 +1,31 @@
 -- No line that was read has an entry.
-use Rattle.std.proofs.Common.{sym, ◌∙◌, arith}
+use Rattle.std.proofs.Common.{ap, subst, sym, ◌∙◌, arith}
+use lib.ListN.{drop}
+use Rattle.gate_rules.specs.Baseline.{entries_of_lines}
+use Rattle.baseline.specs.LinesOf.{LineAt, line-onward}
+use Rattle.baseline.specs.Reads.{key_text}
 use Rattle.lookup.proofs.Halving.{lead_found, lead_past}
 use Rattle.lookup.proofs.first_key.Goals as goal
 
-pub returns-then-is_some : goal.returns-then-is_some
-returns-then-is_some c =
-    let b = c.args.baseline.now in (
-      omega (arith, c.line_end-stop.ensures.1, c.loop-at.invariant.0),
-      lead_found b c.args.from c.loop-at.at c.line_end-stop.result c.trimmed_end-to.result c.loop-at.invariant.1 c.line_end-stop.ensures.0 c.trimmed_end-to.ensures.0
-          c.key_at-key.result c.key_at-key.ensures.0 c.key_at-key.ensures.1,
+pub returns-in-Some-key : goal.returns-in-Some-key
+returns-in-Some-key c =
+    let s = c.args.baseline.now in
+    let l = c.in-Some.line in
+    let at = c.loop-line.line-iterator.at in
+    let h = subst (λ t. LineAt t at l) c.loop-line.invariant.0 c.in-Some.ensures.steps.1 in (
+      omega (arith, line-onward s at l h, c.loop-line.invariant.1),
+      lead_found s c.args.from at l c.loop-line.invariant.2 h _ (sym (ap key_text c.in-Some-key.is) ∙ c.key.ensures),
     )
 
-pub loop-at-preserved : goal.loop-at-preserved
-loop-at-preserved c =
-    let b = c.args.baseline.now in (
-      omega (arith, c.line_end-stop.ensures.1, c.loop-at.invariant.0),
-      lead_past b c.args.from c.loop-at.at c.line_end-stop.result c.trimmed_end-to.result c.loop-at.invariant.1 c.line_end-stop.ensures.0 c.trimmed_end-to.ensures.0
-          c.key_at-key.result (sym c.is_some.ensures ∙ c.if-is_some.false) c.key_at-key.ensures.1,
+pub loop-line-preserved : goal.loop-line-preserved
+loop-line-preserved c =
+    let s = c.args.baseline.now in
+    let l = c.in-Some.line in
+    let at = c.loop-line.line-iterator.at in
+    let step = c.in-Some.ensures.steps in
+    let h = subst (λ t. LineAt t at l) c.loop-line.invariant.0 step.1 in
+    let past = lead_past s c.args.from at l c.loop-line.invariant.2 h (sym (ap key_text c.in_default.is) ∙ c.key.ensures) in (
+      step.2 ∙ c.loop-line.invariant.0,
+      omega (arith, line-onward s at l h, c.loop-line.invariant.1, step.3),
+      past ∙ ap (λ n. entries_of_lines (drop n s)) (sym step.3),
     )

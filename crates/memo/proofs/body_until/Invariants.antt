@@ -5,7 +5,7 @@ use Rattle.flat.specs.Body.{Counted, body_from}
 use Rattle.memo.proofs.body_until.Given as goal
 
 abbrev pub invariant-loop-at : goal.invariant-loop-at
-invariant-loop-at l = (l.at ≤ l.to) × Counted l.counts l.at × (body_from l.s l.from l.initial.counts ≡ body_from l.s l.at l.counts)
+invariant-loop-at l = (l.at ≤ l.to) × Counted l.counts l.at × (body_from l.text.text.now l.from l.initial.counts ≡ body_from l.text.text.now l.at l.counts)
 
 abbrev pub decreases-loop-at : goal.decreases-loop-at
 decreases-loop-at l = l.to - l.at

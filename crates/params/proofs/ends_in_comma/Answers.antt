@@ -1,5 +1,5 @@
 -- The last byte of a text that is not empty is the one before its length.
-use Rattle.std.proofs.Common.{◌≡◌, ◌≤◌, ◌+◌, ◌-◌, ◌&&◌, ◌∙◌, ℕ, List, [], ◌∷◌, true, arith, drop, get_or, length, sym, drop_of_length-le}
+use Rattle.std.proofs.Common.{◌≡◌, ◌≤◌, ◌+◌, ◌-◌, ◌&&◌, ◌∙◌, ℕ, List, [], ◌∷◌, true, arith, get_or, length, sym, drop_of_length-le}
 use Rattle.std.specs.Prelude.{nat_eq}
 use Rattle.text_rules.specs.Classes.{comma}
 use Rattle.text_rules.specs.Search.{ends_in}

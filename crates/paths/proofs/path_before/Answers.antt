@@ -1,44 +1,31 @@
--- `paths::path_before` meets its contract: where the paths agree up to a place, the order of the rests is the order of the paths.
-use Prim.Native.Nat.{ℕ, ◌≤◌, ◌<◌, min}
-use mathlib.Core.Path.{◌≡◌, ap₂, sym, ◌∙◌}
-use mathlib.Core.List.{List}
-use mathlib.Core.Logic.{inl, inr}
-use native.Mathlib.Omega.{arith}
-use borrow.Author.Tests.{ltb-false, ltb-true}
-use lib.Dec.{ltb}
-use lib.ListN.{length, drop, get_or}
-use Rattle.text_rules.specs.BytesLaws.{whether}
+-- The library compares the ranks of the bytes one by one.
+use Rattle.std.proofs.Common.{rules, ℕ, ◌≡◌, ◌∙◌, refl, ap, arith, List, [], ◌∷◌, map}
+use Rattle.std.specs.Ordering.{nat_cmp, is_lt, ordering_then}
+use Rattle.std.specs.declared.cmp.Ordering.{Ordering}
+use Rattle.std.specs.Cmp.Lexicographic.{slice_cmp}
+use Rattle.std.proofs.lemmas.Cmp.{same_from_slice_cmp}
+use Rattle.std.proofs.lemmas.Iterator.{YieldsList-from_map, YieldsList-from_slice}
+use Rattle.std.proofs.lemmas.Iterator.Search.{cmp_from_yields_List}
+use Rattle.std.proofs.lemmas.Bool.Decides.{nat_tests}
 use Rattle.gate_rules.specs.Tree.{path_before, rank}
-use Rattle.gate_rules.proofs.PathForms.{before_longer, before_lower, before-other, before_same, before_shorter}
 use Rattle.paths.proofs.path_before.Goals as goal
 
-module _ (p q : List ℕ) (i : ℕ) where
-  -- bytes that differ decide
-  decided : i < length p → i < length q → (get_or p i 0 ≡ get_or q i 0 → ⊥) → ltb (rank (get_or p i 0)) (rank (get_or q i 0)) ≡ path_before (drop i p) (drop i q)
-  decided h k n =
-      elim (whether (ltb (rank (get_or p i 0)) (rank (get_or q i 0)))) [
-        | inl e ↦ e ∙ sym (before_lower p q i h k (ltb-true (rank (get_or p i 0)) (rank (get_or q i 0)) e))
-        | inr e ↦ e ∙ sym (before-other p q i h k (ltb-false (rank (get_or p i 0)) (rank (get_or q i 0)) e) n)
-      ]
+-- the order of the ranks
+mapped : (p q : List ℕ) → slice_cmp nat_cmp (map rank p) (map rank q) ≡ slice_cmp (λ x y. nat_cmp (rank x) (rank y)) p q
+mapped [] [] = refl
+mapped [] (y ∷ q) = refl
+mapped (x ∷ p) [] = refl
+mapped (x ∷ p) (y ∷ q) = ap (ordering_then (nat_cmp (rank x) (rank y))) (mapped p q)
 
-  -- and else the lengths do
-  shorter : i ≤ min (length p) (length q) → min (length p) (length q) ≤ i → ltb (length p) (length q) ≡ path_before (drop i p) (drop i q)
-  shorter h k =
-      elim (whether (ltb (length p) (length q))) [
-        | inl e ↦ let l = ltb-true (length p) (length q) e in e ∙ sym (before_shorter p q i (omega arith) (omega arith))
-        | inr e ↦ let l = ltb-false (length p) (length q) e in e ∙ sym (before_longer p q i (omega arith))
-      ]
-
-pub returns-then-p-i : goal.returns-then-p-i
-returns-then-p-i c =
-    let l = c.loop-i in
-    ap₂ ltb c.order.ensures c.order-then-p-i.ensures ∙ decided c.args.p.now c.args.q.now l.i (omega arith) (omega arith) c.if-p-i.true ∙ l.invariant
-
-pub loop-i-preserved : goal.loop-i-preserved
-loop-i-preserved c =
-    let l = c.loop-i in
-    let high : rank (get_or c.args.q.now l.i 0) ≤ rank (get_or c.args.p.now l.i 0) = rw c.if-p-i.false (omega arith) in
-    sym (before_same c.args.p.now c.args.q.now l.i (omega arith) (omega arith) high c.if-p-i.false) ∙ l.invariant
+compared : (p q : List ℕ) (r : Ordering) → r ≡ slice_cmp nat_cmp (map rank p) (map rank q) → is_lt r ≡ path_before p q
+unfolding path_before rank
+compared p q r e =
+    same_from_slice_cmp (λ x y. nat_cmp (rank x) (rank y)) is_lt path_before refl (λ _ _. refl) (λ _ _. refl) (λ x y xs ys o h. grind (arith, nat_tests)) p q r (e ∙ mapped p q)
 
 pub returns : goal.returns
-returns c = shorter c.args.p.now c.args.q.now c.loop-i.i (omega arith) (omega arith) ∙ c.loop-i.invariant
+returns c =
+    let ranks : c.cmp.result ≡ slice_cmp nat_cmp (map rank c.args.p.now) (map rank c.args.q.now) =
+    cmp_from_yields_List {xs = map rank c.args.p.now} {ys = map rank c.args.q.now} (λ x y. y ≡ x) _ nat_cmp _ c.cmp.ensures.ran
+    (YieldsList-from_map _ rank (YieldsList-from_slice c.args.p.now cc) refl (λ x r q k. (refl, search rules)))
+    (λ it e. YieldsList-from_map _ rank (YieldsList-from_slice c.args.q.now (ap (λ m. m.iter.rest.now) e ∙ cc)) refl (λ x r q k. (refl, search rules))) (λ x y. refl) in
+    c.is_lt.ensures ∙ compared c.args.p.now c.args.q.now c.cmp.result ranks

@@ -1,12 +1,11 @@
 -- Each line gives its place to the functions that it lists, so the last of several stays.
-use Rattle.std.proofs.Common.{◌-◌, length}
+use Rattle.std.proofs.Common.{◌≡◌}
 use Rattle.gate_rules.specs.Gate.{gate}
 use Rattle.gate_rules.specs.Scan.{functions_of}
 use Rattle.places.specs.Marking.{Seen}
 use Rattle.places.proofs.fill.Given as goal
 
-abbrev pub invariant-loop-from : goal.invariant-loop-from
-invariant-loop-from l = Seen l.lines (functions_of gate l.fs.tree.now) l.from l.places
-
-abbrev pub decreases-loop-from : goal.decreases-loop-from
-decreases-loop-from l = length l.lines - l.from
+abbrev pub invariant-loop-line : goal.invariant-loop-line
+invariant-loop-line l =
+    let s = l.baseline.lines.now in
+    (l.line-iterator.text.now ≡ s) × Seen s (functions_of gate l.fs.tree.now) l.line-iterator.at l.places

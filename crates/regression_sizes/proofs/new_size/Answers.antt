@@ -23,4 +23,4 @@ returns-then-is_over c =
 pub returns : goal.returns
 returns c =
     let a = c.args in
-    (measured-none (new_none (limits_of a.limits) (shown a.f) (sym c.is_over.ensures ∙ c.if-is_over.false)) refl refl, omega arith, omega arith)
+    (measured-none (new_none (limits_of a.limits) (shown a.f) (sym c.is_over.ensures ∙ c.if-is_over.false)) c.default.ensures.0 c.default.ensures.1, omega arith, omega arith)

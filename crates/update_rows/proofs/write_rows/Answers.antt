@@ -12,20 +12,22 @@ use Rattle.update_rows.proofs.write_rows.Goals as goal
 
 pub loop-f-init : goal.loop-f-init
 loop-f-init c =
-    let e = ap (λ fs. length (rows fs)) (c.new-ranking.ensures ∙ recorded-is (limits_of c.args.limits) (functions_of gate c.args.functions.tree.now)) in
-    remains_all (omega (arith, c.requires, e))
+    let listed = c.into_iter-f-iterator.ensures.into_iter_gives ∙ c.new-f-items.ensures ∙ recorded-is (limits_of c.args.limits) (functions_of gate c.args.functions.tree.now) in
+    remains_all (omega (arith, c.requires, ap (λ fs. length (rows fs)) listed))
 
 pub write_row-requires : goal.write_row-requires
 write_row-requires c =
     let f = shown c.in-Some.f in
-    remains_room (lined f) (rows c.next.new.self) c.loop-f.invariant (ap rows c.in-Some.ensures ∙ one-row f c.next.new.self)
+    let left = c.next.new.self in
+    remains_room (lined f) (rows left) c.loop-f.invariant (ap rows c.in-Some.ensures.steps ∙ one-row f left)
 
 pub loop-f-preserved : goal.loop-f-preserved
 loop-f-preserved c =
     let f = shown c.in-Some.f in
-    remains_next (rows c.next.new.self) c.loop-f.invariant (ap rows c.in-Some.ensures ∙ one-row f c.next.new.self) c.write_row.ensures
+    let left = c.next.new.self in
+    remains_next (rows left) c.loop-f.invariant (ap rows c.in-Some.ensures.steps ∙ one-row f left) c.write_row.ensures
 
 pub returns : goal.returns
 returns c =
-    subst (λ fs. Writes (rows fs) c.args.w.now c.loop-f.w) (c.new-ranking.ensures ∙ recorded-is (limits_of c.args.limits) (functions_of gate c.args.functions.tree.now))
-    (remains_none c.loop-f.invariant (ap rows (c.in_default.ensures {u = tt}).0 ∙ no_rows))
+    let listed = c.into_iter-f-iterator.ensures.into_iter_gives ∙ c.new-f-items.ensures ∙ recorded-is (limits_of c.args.limits) (functions_of gate c.args.functions.tree.now) in
+    subst (λ fs. Writes (rows fs) c.args.w.now c.loop-f.w) listed (remains_none c.loop-f.invariant (ap rows c.in-None.ensures.steps.0 ∙ no_rows))

@@ -1,11 +1,7 @@
 -- `update_rows::write_rows` meets its contract: at each turn the rows of the functions that are still to take are still to be written.
-use Rattle.std.proofs.Common.{length}
 use Rattle.gate_rules.specs.Update.{rows}
 use Rattle.listing.specs.Writes.{Remains}
 use Rattle.update_rows.proofs.write_rows.Given as goal
 
 abbrev pub invariant-loop-f : goal.invariant-loop-f
-invariant-loop-f l = Remains (rows l.ranking) (rows l.initial.ranking) l.initial.w l.w
-
-abbrev pub decreases-loop-f : goal.decreases-loop-f
-decreases-loop-f l = length l.ranking
+invariant-loop-f l = Remains (rows l.f-iterator) (rows l.initial.f-iterator) l.initial.w l.w

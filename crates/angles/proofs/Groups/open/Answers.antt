@@ -1,20 +1,21 @@
 -- `angles::Groups::open` meets its contract: the brackets belong to the last group, or are one.
-use Rattle.std.proofs.Common.{sym, ◌∙◌, arith}
-use Rattle.angles.proofs.Laws.{opens_last, opens_new}
+use Rattle.std.proofs.Common.{arith}
+use Rattle.std.proofs.lemmas.List.{length-reverse}
+use Rattle.angles.specs.Angles.{room_above, turned_more, turned_push}
+use Rattle.angles.specs.Groups.{groups_of}
 use Rattle.angles.proofs.Groups.open.Goals as goal
-use Rattle.angles.proofs.Groups.open.Goals.{in_default-via-in-Some+else-from-next, in_default-via-in_default}
+
+pub push-requires : goal.push-requires
+push-requires c =
+    let a = c.args in
+    record { room = omega (arith, length-reverse a.self.now.groups.items, room_above a.next a.at (groups_of a.self.now) c.requires.stands c.in-None.ensures) }
 
 pub returns-in-Some : goal.returns-in-Some
 returns-in-Some c =
     let a = c.args in
-    opens_last a.self.now a.n a.next a.at c.requires.stands c.in-Some.g c.in-Some.ensures (sym c.from.ensures ∙ c.if-from-next.true)
+    rw c.resize.ensures (turned_more a.n a.next a.at _ c.in-Some.g c.requires.stands c.in-Some.ensures.0 c.in-Some.ensures.1)
 
-pub returns-in_default : goal.returns-in_default
-returns-in_default c =
+pub returns-in-None : goal.returns-in-None
+returns-in-None c =
     let a = c.args in
-    elim c.in_default.branch [
-      | in_default-via-in-Some+else-from-next w ↦
-          rw c.push.ensures (opens_new a.self.now a.n a.next a.at c.requires.stands (omega arith) (λ h z. w.if-from-next.false (w.from.ensures ∙ w.in-Some.ensures.begun ∙ z)))
-      | in_default-via-in_default w ↦
-          rw c.push.ensures (opens_new a.self.now a.n a.next a.at c.requires.stands (omega arith) (λ h. absurd (omega (arith, h, w.in_default.ensures))))
-    ]
+    rw c.push.ensures (turned_push a.n a.next a.at _ c.requires.stands (omega arith) c.in-None.ensures)

@@ -1,5 +1,5 @@
--- `bodies::Searches::settle` meets its contract: each turn takes the first off the level's chain. It is behind the boundary, and those that are left in the
--- chain are before it.
+-- `bodies::Searches::settle` meets its contract: each turn takes the first off the level's chain. It is behind the boundary, and those that are left
+-- in the chain are before it.
 use Rattle.std.proofs.Common.{ℕ, suc, ◌-◌, ◌≡◌, get_or, sym, ◌∙◌, arith, get_or-set_same}
 use Rattle.bodies.specs.Chain.{popped-fits}
 use Rattle.bodies.specs.Settling.{settling_more}

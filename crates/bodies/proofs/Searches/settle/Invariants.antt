@@ -1,5 +1,5 @@
--- `bodies::Searches::settle` meets its contract: each turn takes the first off the level's chain. It is behind the boundary, and those that are left in the
--- chain are before it.
+-- `bodies::Searches::settle` meets its contract: each turn takes the first off the level's chain. It is behind the boundary, and those that are left
+-- in the chain are before it.
 use Rattle.std.proofs.Common.{ℕ, ◌≤◌, ◌≡◌, get_or}
 use Rattle.bodies.specs.Chain.{Chained}
 use Rattle.bodies.specs.Settling.{Behind, Settling}

@@ -20,5 +20,5 @@ returns-then-is_missed-clause-kept c =
     let a = c.args in
     let w = with_searches a.self.now c.narrow.new.self in
     let k = kept_narrowed _ _ a.self.now c.requires.kept c.narrow.new.self c.narrow.ensures in
-    subst (Kept a.p.now.text.now a.p.now.starts.now) (sym c.pass.ensures.crossed)
-    (kept-crossed a.p.now.text.now a.p.now.starts.now w k a.c c.requires.summary (c.is_missed.ensures c.if-is_missed.true) c.pass.new.self.groups c.pass.ensures.turns)
+    subst (Kept a.p.now.text.text.now a.p.now.starts.now) (sym c.pass.ensures.crossed)
+    (kept-crossed a.p.now.text.text.now a.p.now.starts.now w k a.c c.requires.summary (c.is_missed.ensures c.if-is_missed.true) c.pass.new.self.groups c.pass.ensures.turns)

@@ -1,5 +1,5 @@
--- `bodies::Walk::end_level` meets its contract: the searches at depth 0 are those of the walk's level behind the boundary. There are none at a level that is
--- not kept.
+-- `bodies::Walk::end_level` meets its contract: the searches at depth 0 are those of the walk's level behind the boundary. There are none at a level
+-- that is not kept.
 use Rattle.bodies.specs.Settling.{settled-none}
 use Rattle.bodies.proofs.Walk.end_level.Goals as goal
 

@@ -12,5 +12,5 @@ returns-clause-turns c =
     let w = c.args.self.now in
     let a = c.args.c in
     let t = c.close.ensures w.next w.at c.requires.stands in
-    let u = turned_then (less a.downs) (more a.ups) w.next w.at (w.at + a.ups) _ _ _ _ _ _ t _ _ _ c.open.ensures in
-    turned_as (depth_behind a) (depth_behind a) w.next (w.at + a.ups) (w.at + 4096) _ _ _ _ _ _ u (omega (arith, c.requires.chunk.0)) (λ d. refl)
+    let u = turned_then (less a.downs) (more a.ups) w.next w.at (w.at + a.ups) _ _ t _ c.open.ensures in
+    turned_as (depth_behind a) (depth_behind a) w.next (w.at + a.ups) (w.at + 4096) _ _ u (omega (arith, c.requires.chunk.0)) (λ d. refl)

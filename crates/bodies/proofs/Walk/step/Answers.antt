@@ -33,5 +33,5 @@ returns-clause-kept c =
     let d = counted 93 _ v.closed _ c.from-2.ensures in
     let w = c.end_at.new.self in
     let g = c.pass.new.self in
-    subst (λ z. Kept c.args.p.now.text.now c.args.p.now.starts.now (record { at = z.at + 1; next = z.next; opened = z.opened + c.from.result; closed = z.closed + c.from-2.result; groups = g; searches = z.searches })) (sym e.same)
+    subst (λ z. Kept c.args.p.now.text.text.now c.args.p.now.starts.now (record { at = z.at + 1; next = z.next; opened = z.opened + c.from.result; closed = z.closed + c.from-2.result; groups = g; searches = z.searches })) (sym e.same)
     (kept-further _ _ v k (omega (arith, at, c.requires.inside)) w.searches e.fewer (e.ended _ k.chain) g (rw e.same at t) _ _ o d)

@@ -4,7 +4,7 @@ use Rattle.bodies.specs.Walking.{Kept}
 use Rattle.bodies.proofs.Walk.walk.Given as goal
 
 abbrev pub invariant-loop-self : goal.invariant-loop-self
-invariant-loop-self l = Kept l.p.text.now l.p.starts.now l.self
+invariant-loop-self l = Kept l.p.text.text.now l.p.starts.now l.self
 
 abbrev pub decreases-loop-self : goal.decreases-loop-self
-decreases-loop-self l = length l.p.text.now - l.self.at
+decreases-loop-self l = length l.p.text.text.now - l.self.at

@@ -1,6 +1,6 @@
--- `parts::Pass::note_unmet` meets its contract: the numbers that are set tell of brackets without a partner.
-use Rattle.parts.specs.Filling.{Window}
+-- `parts::Pass::note_unmet` meets its contract: the notes that are written down tell what they must.
+use Rattle.parts.specs.Filling.{Telling}
 use Rattle.parts.proofs.Pass.note_unmet.Given as goal
 
 abbrev pub invariant-loop-k : goal.invariant-loop-k
-invariant-loop-k l = Window l.p.text.now l.p.from l.p.many l.m
+invariant-loop-k l = Telling l.self.part.text.text.now l.self.part.from l.w

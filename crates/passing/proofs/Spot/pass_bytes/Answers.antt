@@ -1,5 +1,5 @@
 -- Only bytes that pass the test are passed, and only before the given place.
-use Rattle.std.proofs.Common.{ℕ, ap, arith, refl, true, ◌+◌, ◌≡◌, get_or, subst, sym}
+use Rattle.std.proofs.Common.{ℕ, ap, arith, refl, true, ◌≡◌, get_or, subst, sym}
 use Rattle.text_rules.specs.Classes.{lf}
 use Rattle.source_rules.proofs.MeasuresLaws.{count-after}
 use Rattle.passing.specs.Passing.{passed_none, passed-byte, passed-more}

@@ -1,5 +1,5 @@
 -- What the second loop passes follows what the first has passed.
-use Rattle.std.proofs.Common.{ℕ, true}
+use Rattle.std.proofs.Common.{true}
 use Rattle.passing.specs.Passing.{passed-line, passed-more}
 use Rattle.passing.proofs.Spot.pass_while.Goals as goal
 

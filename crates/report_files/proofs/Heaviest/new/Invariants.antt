@@ -5,4 +5,4 @@ use Rattle.report_files.proofs.Heaviest.new.Given as goal
 abbrev pub invariant-loop-done : goal.invariant-loop-done
 invariant-loop-done l =
     let tree = l.totals.tree.now in
-    IsFile tree l.last × Listing tree l.done (number_in tree l.last) l.files
+    IsFile tree l.last × Listing tree l._done (number_in tree l.last) l.files.items

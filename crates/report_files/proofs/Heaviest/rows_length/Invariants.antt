@@ -1,11 +1,16 @@
 -- `report_files::Heaviest::rows_length` meets its contract: at each turn the bytes counted, and those of the rows that are left, make the whole.
-use Rattle.std.proofs.Common.{◌*◌, ◌+◌, ◌≤◌, ◌≡◌, length}
+use Rattle.std.specs.Prelude.{◌*◌, ◌+◌, ◌≤◌, ◌<◌, ◌≡◌, length}
+use Rattle.std.specs.Slice.Iter.{iter_rest}
 use Rattle.gate_rules.specs.Report.{weight_rows}
-use Rattle.report_files.specs.Files.{rows_from}
-use Rattle.report_files.specs.Tops.{weights_in}
+use Rattle.gate_rules.specs.Tree.{file_count}
+use Rattle.text_rules.specs.Bytes.{All}
+use Rattle.report_files.specs.Tops.{rows_of, weights_in}
 use Rattle.report_files.proofs.Heaviest.rows_length.Given as goal
 
 abbrev pub invariant-loop-k : goal.invariant-loop-k
 invariant-loop-k l =
-    let h = l.self-inside in
-    (l.bytes ≤ l.k-index * 4294967400) × (l.bytes + length (rows_from h.totals.now.tree.now h.count h.files l.k-index) ≡ length (weight_rows (weights_in h)))
+    let tree = l.self-inside.totals.now.tree.now in
+    let rest = iter_rest l.k-iterator in
+    (l.bytes + length rest * 4294967400 ≤ 42949674000)
+    × (l.bytes + length (rows_of tree rest) ≡ length (weight_rows (weights_in l.self-inside)))
+    × All (λ k. k < file_count tree) rest

@@ -1,29 +1,47 @@
 -- Behind 8,192 others a key has no place, one that stands there already changes nothing, and any other is put in at its place.
-use Rattle.std.proofs.Common.{refl, sym, ◌∙◌}
+use Rattle.std.proofs.Common.{◌+◌, ◌≡◌, ap, arith, length, subst, sym, ◌∙◌}
 use Rattle.text_rules.specs.Search.{part}
-use Rattle.sorted_keys.proofs.Inserting.{added, behind-all, there}
+use Rattle.sorted_keys.proofs.Inserting.{added, behind-all, few-keys, held_now, keys_now, there}
 use Rattle.sorted_keys.proofs.Keys.insert.Goals as goal
 
-pub returns-then-at-eq-MOST : goal.returns-then-at-eq-MOST
-returns-then-at-eq-MOST c =
-    let a = c.args in
-    let s = a.lines.now in
-    let place = rw c.of-bytes.ensures at c.place_of-at.ensures.place in
-    behind-all s a.self.now c.requires.0 (part a.key.from a.key.to s) c.place_of-at.result place c.place_of-at.ensures.few c.if-at-eq-MOST.true
+pub returns-then-at-eq-MOST-clause-keys : goal.returns-then-at-eq-MOST-clause-keys
+returns-then-at-eq-MOST-clause-keys c =
+    let k = c.self.inside in
+    let ks = c.args.self.now.keys in
+    let few = few-keys k.baseline.lines.now k.places.items c.self.invariant ks (ap (λ v. v.keys) c.self.view_is) in
+    behind-all ks few c.args.key.now c.place_of-at.result c.place_of-at.ensures.place c.place_of-at.ensures.few c.if-at-eq-MOST.true
 
-pub returns-then-stands_at : goal.returns-then-stands_at
-returns-then-stands_at c =
-    let a = c.args in
-    let s = a.lines.now in
-    let place = rw c.of-bytes.ensures at c.place_of-at.ensures.place in
-    let test = rw c.of-bytes.ensures at c.stands_at.ensures in
-    there s a.self.now c.requires.0 (part a.key.from a.key.to s) c.place_of-at.result place c.place_of-at.ensures.few (sym test ∙ c.if-stands_at.true)
+pub returns-then-stands_at-clause-keys : goal.returns-then-stands_at-clause-keys
+returns-then-stands_at-clause-keys c =
+    let k = c.self.inside in
+    let ks = c.args.self.now.keys in
+    let few = few-keys k.baseline.lines.now k.places.items c.self.invariant ks (ap (λ v. v.keys) c.self.view_is) in
+    there ks few c.args.key.now c.place_of-at.result c.place_of-at.ensures.place c.place_of-at.ensures.few (sym c.stands_at.ensures ∙ c.if-stands_at.true)
 
-pub returns : goal.returns
-returns c =
-    let a = c.args in
-    let s = a.lines.now in
-    let place = rw c.of-bytes.ensures at c.place_of-at.ensures.place in
-    let test = rw c.of-bytes.ensures at c.stands_at.ensures in
-    added s a.self.now c.requires.0 (part a.key.from a.key.to s) c.place_of-at.result place c.place_of-at.ensures.few (sym test ∙ c.if-stands_at.false)
-    _ c.put_in.new.self c.put_in.ensures refl c.requires.1 c.requires.2
+pub invariant_of-self : goal.invariant_of-self
+invariant_of-self c =
+    let k = c.self.inside in
+    let s = k.baseline.lines.now in
+    let key = c.args.key.now in
+    let from = c.args.from in
+    let ks = c.args.self.now.keys in
+    let seen = ap (λ v. v.keys) c.self.view_is in
+    let lines = ap (λ v. v.lines) c.self.view_is in
+    let few = few-keys s k.places.items c.self.invariant ks seen in
+    let one = added ks few key c.place_of-at.result c.place_of-at.ensures.place c.place_of-at.ensures.few (sym c.stands_at.ensures ∙ c.if-stands_at.false) in
+    held_now s k.places.items c.put_in.new.places.items c.self.invariant ks seen key c.place_of-at.result (record { from = from; to = from + length key }) c.put_in.ensures
+    (subst (λ t. part from (from + length key) t ≡ key) (sym lines) c.requires.stands) one (omega arith, omega (arith, ap length lines, c.requires.inside))
+
+pub returns-clause-keys : goal.returns-clause-keys
+returns-clause-keys c =
+    let k = c.self.inside in
+    let s = k.baseline.lines.now in
+    let key = c.args.key.now in
+    let from = c.args.from in
+    let ks = c.args.self.now.keys in
+    let seen = ap (λ v. v.keys) c.self.view_is in
+    let lines = ap (λ v. v.lines) c.self.view_is in
+    let few = few-keys s k.places.items c.self.invariant ks seen in
+    let one = added ks few key c.place_of-at.result c.place_of-at.ensures.place c.place_of-at.ensures.few (sym c.stands_at.ensures ∙ c.if-stands_at.false) in
+    keys_now s k.places.items c.put_in.new.places.items c.self.invariant ks seen key c.place_of-at.result (record { from = from; to = from + length key }) c.put_in.ensures
+    (subst (λ t. part from (from + length key) t ≡ key) (sym lines) c.requires.stands) one

@@ -1,5 +1,5 @@
 -- The part searched is the definition's window of ten bytes, cut at the end of the text.
-use Rattle.std.proofs.Common.{◌≡◌, ◌≤◌, ◌<◌, ◌+◌, ◌-◌, true, false, get_or, length, take, drop, arith, rules, not, sym, ◌∙◌, length-drop, length-take, min}
+use Rattle.std.proofs.Common.{◌≡◌, ◌≤◌, ◌<◌, ◌+◌, ◌-◌, true, false, get_or, length, take, drop, arith, rules, not, length-drop, length-take, min}
 use Rattle.std.specs.Prelude.{nat_eq, ℕ}
 use Rattle.text_rules.specs.Search.{bytes_before}
 use Rattle.text_rules.proofs.SearchLaws.{run_length}

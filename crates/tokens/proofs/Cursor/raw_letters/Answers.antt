@@ -1,5 +1,5 @@
 -- `tokens::Cursor::raw_letters` meets its contract: the definition's two tests, in its order.
-use Rattle.std.proofs.Common.{ℕ, ◌+◌, ◌∙◌, arith, get_or, sym}
+use Rattle.std.proofs.Common.{◌+◌, ◌∙◌, arith, get_or, sym}
 use Rattle.text_rules.proofs.SearchLaws.{in_text}
 use Rattle.tokens.proofs.Bodies.{other-first, other-second, pair_there}
 use Rattle.tokens.proofs.Rules.{letters_none, letters_one, letters_two}

@@ -1,2 +1,0 @@
--- What is noted of brackets that are closed can be written down.
-pub mod Notes
