@@ -111,6 +111,7 @@ impl Groups {
         ensures { (next at : ℕ) → Stands self.old next at → Turns (less n) next at self.old self.new }
     {
         let mut left = n;
+        // Kept: each turn takes the last group off or makes it smaller, so no `for` can hold the groups.
         while let Some(g) = self.top() {
             let size = g.size as usize;
             if left < size {

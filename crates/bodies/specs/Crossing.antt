@@ -27,26 +27,26 @@ pub record Narrows (x y : Searches) : Type 0 where
   pub high : (k : ℕ) → get_or x.heads k 0 ≢ 0 → k ≤ x.high → k ≤ y.high
 
 -- a chunk misses all searches that have begun, or all between two levels; one in which none can end misses them all
-abbrev pub MissedEnds : Option Ends → Walk → Type 0
+abbrev pub MissedEnds : Option (Ends ℕ) → Walk → Type 0
 MissedEnds None w = Unit {0}
 MissedEnds (Some e) w =
     ((i : ℕ) → i < w.next → e.ended < above_in w.groups i)
     ⊎ ((2048 + w.searches.high + w.closed < e.low + w.opened) ⊎ (e.high + w.opened < 2048 + w.searches.low + w.closed))
 
-abbrev pub Missed : Chunk → Walk → Type 0
+abbrev pub Missed : Chunk ℕ → Walk → Type 0
 Missed c = MissedEnds c.ends
 
 -- a depth behind a chunk
-abbrev pub depth_behind : Chunk → ℕ → ℕ
+abbrev pub depth_behind : Chunk ℕ → ℕ → ℕ
 depth_behind c depth = more c.ups (less c.downs depth)
 
 -- the walk behind it
-abbrev pub crossed : Chunk → Walk → Groups → Walk
+abbrev pub crossed : Chunk ℕ → Walk → Groups → Walk
 crossed c w g =
     record { at = w.at + 4096; next = w.next; opened = w.opened + c.opened; closed = w.closed + c.closed; groups = g; searches = w.searches }
 
 -- so many brackets stand in it at most
-module _ (s : List ℕ) (at : ℕ) (c : Chunk) (y : Summary s at c) where
+module _ (s : List ℕ) (at : ℕ) (c : Chunk ℕ) (y : Summary s at c) where
   pub chunk_opened : c.opened ≤ 4096
   chunk_opened = omega (arith, y.passing.opened-is, count_most square_open s at (at + 4096 - at))
 
@@ -99,14 +99,14 @@ module _ (s starts : List ℕ) (w : Walk) (k : Kept s starts w) where
           tells = rw n.told k.tells;
         }
 
-  misses_each : (o : Option Ends) → MissedEnds o w → (i : ℕ) → Pending w.searches.told i
+  misses_each : (o : Option (Ends ℕ)) → MissedEnds o w → (i : ℕ) → Pending w.searches.told i
       → MissesEnds o (above_in w.groups i) (closed_before s starts i + w.opened) (opened_before s starts i + w.closed)
   misses_each None d i p = tt
   misses_each (Some e) (inl a) i p = inl (a i (k.before i p))
   misses_each (Some e) (inr (inl a)) i p = inr (inl (omega (arith, k.whole i p, (k.between i p).1, a)))
   misses_each (Some e) (inr (inr a)) i p = inr (inr (omega (arith, k.whole i p, (k.between i p).0, a)))
 
-  module _ (c : Chunk) (y : Summary s w.at c) (d : Missed c w) where
+  module _ (c : Chunk ℕ) (y : Summary s w.at c) (d : Missed c w) where
     module _ (g : Groups) (t : Turns (depth_behind c) w.next (w.at + 4096) w.groups g) where
       goes_on : (i : ℕ) → Pending w.searches.told i → Tracks s starts (crossed c w g) i
       goes_on i p =

@@ -3,7 +3,7 @@
 #![tactic(auto)]
 
 ghost use Rattle.std.specs.Prelude.{◌≡◌, ◌≢◌, ℕ, ◌+◌, ◌≤◌, ◌<◌, length, get_or, IsFalse, IsTrue, MatchOption};
-ghost use Rattle.chunks.specs.Passing.{Summary};
+ghost use Rattle.chunks.specs.Passing.{LevelsFit, Summary};
 ghost use Rattle.angles.specs.Groups.{Stands, Turns};
 ghost use Rattle.bodies.specs.Bodies.{Finds, Rising};
 ghost use Rattle.bodies.specs.Chain.{Chained, FitIn};
@@ -278,6 +278,7 @@ impl Walk {
     // Whether no pending search ends in a chunk: each has more angle brackets open than the chunk closes before its last `{` or `;`, or all of these
     // stand above the levels of the searches, or all below.
     fn is_missed(&self, c: Chunk) -> bool
+        requires chunk { LevelsFit c.ends }
         requires levels { (self.now.searches.low ≤ 4096) × (self.now.searches.high ≤ 4096) }
         requires stands { Stands self.now.groups self.now.next self.now.at }
         ensures { IsTrue result → Missed c self.now }
@@ -287,9 +288,9 @@ impl Walk {
         };
         let opened = self.opened as usize;
         let closed = self.closed as usize;
-        usize::from(e.ended) < self.groups.least(self.next, self.at)
-            || 2048 + self.searches.high + closed < usize::from(e.low) + opened
-            || usize::from(e.high) + opened < 2048 + self.searches.low + closed
+        e.ended < self.groups.least(self.next, self.at)
+            || 2048 + self.searches.high + closed < e.low + opened
+            || e.high + opened < 2048 + self.searches.low + closed
     }
 
     // The walk behind a chunk. The angle brackets that it closes from before stand before those that it leaves open.
@@ -302,8 +303,8 @@ impl Walk {
         ensures crossed { self.new ≡ crossed c self.old self.new.groups }
         ensures turns { Turns (depth_behind c) self.old.next (self.old.at + 4096) self.old.groups self.new.groups }
     {
-        self.groups.close(c.downs as usize);
-        self.groups.open(c.ups as usize, self.next, self.at);
+        self.groups.close(c.downs);
+        self.groups.open(c.ups, self.next, self.at);
         self.opened += c.opened as u32;
         self.closed += c.closed as u32;
         self.at += chunks::SIZE;
@@ -347,7 +348,7 @@ impl Walk {
         requires { Kept p.now.text.text.now p.now.starts.now self.old }
         ensures { Kept p.now.text.text.now p.now.starts.now self.new }
     {
-        // Kept: a step is a chunk, or a byte and any number of quiet ones behind it, so no `for` counts the steps.
+        // Kept: a step is a chunk, or a byte and any number of quiet ones behind it. An iterator of such steps would serve this loop alone.
         while self.at < p.text.text.len() && !self.is_over(p) {
             self.onward(p);
         }

@@ -6,7 +6,7 @@ use Rattle.source_rules.specs.Brackets.{partner}
 use Rattle.blocks.specs.Blocks.{count_most}
 use Rattle.flat.specs.Body.{Counted}
 use Rattle.flat.specs.declared.Counts.{Counts}
-use Rattle.chunks.specs.Passing.{Misses, Summary, TellsCounts, TellsDepth}
+use Rattle.chunks.specs.Passing.{Misses, PassesBody, Summary, TellsCounts, TellsDepth}
 use Rattle.chunks.specs.Table.{Entry}
 use Rattle.chunks.specs.declared.Chunk.{Chunk}
 use Rattle.chunks.specs.declared.Sums.{Sums}
@@ -23,17 +23,16 @@ round-further s at x depth h l d c = (
 )
 
 -- what a search for a body has counted behind a chunk
-abbrev pub counts_past : Chunk → Counts → Counts
+abbrev pub counts_past : Chunk ℕ → Counts → Counts
 counts_past c n = record { angle = n.angle - c.downs + c.ups; opened = n.opened + c.opened; closed = n.closed + c.closed }
 
--- the brackets that are counted in a chunk are at most as many as its bytes
-pub brackets_most : (s : List ℕ) (at : ℕ) (c : Chunk) → Summary s at c → (c.ups ≤ 4096) × (c.opened ≤ 4096) × (c.closed ≤ 4096)
-brackets_most s at c h =
-    let p = h.passing in
-    let many = at + 4096 - at in (
-      omega (arith, p.ups_most),
-      omega (arith, p.opened-is, count_most square_open s at many),
-      omega (arith, p.closed_is, count_most square_close s at many),
+-- the brackets that are counted in the bytes of a chunk are at most as many as these
+pub brackets_most : (s : List ℕ) (from to : ℕ) (c : Chunk ℕ) → to ≤ from + 4096 → PassesBody s from to c → (c.ups ≤ 4096) × (c.opened ≤ 4096) × (c.closed ≤ 4096)
+brackets_most s from to c l p =
+    let many = to - from in (
+      omega (arith, l, p.ups_most),
+      omega (arith, l, p.opened-is, count_most square_open s from many),
+      omega (arith, l, p.closed_is, count_most square_close s from many),
     )
 
 -- counts stay counts further on
@@ -42,10 +41,10 @@ counted_further n at to h k =
     record { angle_most = omega (arith, k.angle_most, h); opened-most = omega (arith, k.opened-most, h); closed-most = omega (arith, k.closed-most, h) }
 
 -- a search for a body that does not end in a chunk goes on behind it
-pub body_further : (s : List ℕ) (at : ℕ) (c : Chunk) (n : Counts) → Summary s at c → Counted n at → Misses c n.angle n.opened n.closed
+pub body_further : (s : List ℕ) (at : ℕ) (c : Chunk ℕ) (n : Counts) → Summary s at c → Counted n at → Misses c n.angle n.opened n.closed
     → TellsCounts s at n (Some (counts_past c n))
 body_further s at c n h k m =
-    let b = brackets_most s at c h in (
+    let b = brackets_most s at (at + 4096) c (omega arith) h.passing in (
       h.inside,
       h.passing.passes n.angle n.opened n.closed m,
       record { angle_most = omega (arith, k.angle_most, b.0); opened-most = omega (arith, k.opened-most, b.1); closed-most = omega (arith, k.closed-most, b.2) },

@@ -12,28 +12,34 @@ use Rattle.blocks.specs.Blocks.{count-behind, count_none, count_from}
 use Rattle.flat.specs.Body.{Plain}
 use Rattle.flat.specs.BodyLaws.{passed}
 use Rattle.flat.specs.FlatLaws.{angle_raised, squares_raised}
-use Rattle.chunks.specs.Passing.{Misses, MissesEnds, PassesBody}
+use Rattle.chunks.specs.Passing.{LevelsFit, Misses, MissesEnds, PassesBody}
 use Rattle.chunks.specs.declared.Chunk.{Chunk}
 use Rattle.chunks.specs.declared.Ends.{Ends}
 
 -- bounds of the { and ; of some bytes that close so many >
-abbrev pub EndsWithin : (downs : ℕ) → Option Ends → Type 0
+abbrev pub EndsWithin : (downs : ℕ) → Option (Ends ℕ) → Type 0
 EndsWithin downs None = Unit {0}
 EndsWithin downs (Some e) = (e.ended ≤ downs) × (e.low ≤ 8192) × (e.high ≤ 8192)
 
-ends_later : (downs downs' : ℕ) (o : Option Ends) → downs ≤ downs' → EndsWithin downs o → EndsWithin downs' o
+ends_later : (downs downs' : ℕ) (o : Option (Ends ℕ)) → downs ≤ downs' → EndsWithin downs o → EndsWithin downs' o
 ends_later downs downs' None h w = tt
 ends_later downs downs' (Some e) h w = (omega (arith, h, w.0), w.1, w.2)
 
 -- bounds of the sums of n bytes
-pub record Within (n : ℕ) (c : Chunk) : Type 0 where
+pub record Within (n : ℕ) (c : Chunk ℕ) : Type 0 where
   pub angles_most : c.downs + c.ups ≤ n
   pub opened-most : c.opened ≤ n
   pub closed-most : c.closed ≤ n
   pub ends_most : EndsWithin c.downs c.ends
 
+-- they bound the levels
+pub levels_within : (n : ℕ) (c : Chunk ℕ) → Within n c → LevelsFit c.ends
+levels_within n c w e is =
+    let h = subst (EndsWithin c.downs) is w.ends_most in
+    (omega (arith, h.1), omega (arith, h.2))
+
 -- they hold for more bytes too
-pub within_more : (n m : ℕ) (c : Chunk) → n ≤ m → Within n c → Within m c
+pub within_more : (n m : ℕ) (c : Chunk ℕ) → n ≤ m → Within n c → Within m c
 within_more n m c h w =
     record {
       angles_most = omega (arith, h, w.angles_most);
@@ -42,14 +48,16 @@ within_more n m c h w =
       ends_most = w.ends_most;
     }
 
--- no bytes have sums of 0, and no { or ;
-pub within_none : (c : Chunk) → c.downs ≡ 0 → c.ups ≡ 0 → c.opened ≡ 0 → c.closed ≡ 0 → c.ends ≡ None → Within 0 c
-within_none c d u o k e =
-    record { angles_most = omega (arith, d, u); opened-most = omega (arith, o); closed-most = omega (arith, k); ends_most = subst (EndsWithin c.downs) (sym e) tt }
+-- the sums of no bytes are 0, and they have no { or ;
+abbrev pub nothing : Chunk ℕ
+nothing = record { downs = 0; ups = 0; opened = 0; closed = 0; ends = None }
+
+pub within_none : Within 0 nothing
+within_none = record { angles_most = omega arith; opened-most = omega arith; closed-most = omega arith; ends_most = tt }
 
 -- bytes with the sums c and a byte b behind them have the sums r: a search that misses r misses c, is not ended by b, and has the counts of r behind
 -- it
-pub record Behind (b : ℕ) (c r : Chunk) : Type 0 where
+pub record Behind (b : ℕ) (c r : Chunk ℕ) : Type 0 where
   pub angle_behind : (angle : ℕ) → angle_after b (angle - c.downs + c.ups) ≡ angle - r.downs + r.ups
   pub opened-behind : count_after square_open b c.opened ≡ r.opened
   pub closed-behind : count_after square_close b c.closed ≡ r.closed
@@ -59,26 +67,26 @@ pub record Behind (b : ℕ) (c r : Chunk) : Type 0 where
   pub within : (n : ℕ) → n ≤ 4095 → Within n c → Within (n + 1) r
 
 -- sums with so many more <, [ and ]
-abbrev pub more : Chunk → (ups opened closed : ℕ) → Chunk
+abbrev pub more : Chunk ℕ → (ups opened closed : ℕ) → Chunk ℕ
 more c ups opened closed =
     record { downs = c.downs; ups = c.ups + ups; opened = c.opened + opened; closed = c.closed + closed; ends = c.ends }
 
 -- sums with other angle brackets
-abbrev pub angled : Chunk → (downs ups : ℕ) → Chunk
+abbrev pub angled : Chunk ℕ → (downs ups : ℕ) → Chunk ℕ
 angled c downs ups = record { downs = downs; ups = ups; opened = c.opened; closed = c.closed; ends = c.ends }
 
 -- the { and ; with one more, at a level and behind so many >
-abbrev pub ends_with : Option Ends → (level ended : ℕ) → Ends
+abbrev pub ends_with : Option (Ends ℕ) → (level ended : ℕ) → Ends ℕ
 ends_with None level ended = record { low = level; high = level; ended = ended }
 ends_with (Some e) level ended = record { low = min e.low level; high = max e.high level; ended = ended }
 
 -- sums with one more { or ; that stands outside angle brackets
-abbrev pub with_stop : Chunk → Chunk
+abbrev pub with_stop : Chunk ℕ → Chunk ℕ
 with_stop c =
     record { downs = c.downs; ups = c.ups; opened = c.opened; closed = c.closed; ends = Some (ends_with c.ends (4096 + c.opened - c.closed) c.downs) }
 
 -- the sums behind a byte that ends no search
-module _ (b : ℕ) (c r : Chunk) (no-brace : b ≢ brace_open) (no-semicolon : b ≢ semicolon) (ends : r.ends ≡ c.ends) where
+module _ (b : ℕ) (c r : Chunk ℕ) (no-brace : b ≢ brace_open) (no-semicolon : b ≢ semicolon) (ends : r.ends ≡ c.ends) where
   pub behind-counted : ((angle : ℕ) → angle_after b (angle - c.downs + c.ups) ≡ angle - r.downs + r.ups)
       → count_after square_open b c.opened ≡ r.opened
       → count_after square_close b c.closed ≡ r.closed
@@ -101,7 +109,7 @@ module _ (b : ℕ) (c r : Chunk) (no-brace : b ≢ brace_open) (no-semicolon : b
       }
 
 -- the sums behind each byte
-module _ (b : ℕ) (c : Chunk) where
+module _ (b : ℕ) (c : Chunk ℕ) where
   pub behind_angle_open : b ≡ angle_open → Behind b c (more c 1 0 0)
   unfolding angle_after count_after
   behind_angle_open e =
@@ -130,7 +138,7 @@ module _ (b : ℕ) (c : Chunk) where
       (λ angle. rw (e, sym (sub-one (angle - c.downs + c.ups))) (omega (arith, d, u))) (rw e) (rw e) (omega (arith, d)) (omega (arith, d, u))
 
 -- the sums behind a { or ;
-module _ (b : ℕ) (c : Chunk) (stop : (b ≡ brace_open) ⊎ (b ≡ semicolon)) where
+module _ (b : ℕ) (c : Chunk ℕ) (stop : (b ≡ brace_open) ⊎ (b ≡ semicolon)) where
   angle_stop : (angle : ℕ) → angle_after b angle ≡ angle
   unfolding angle_after
   angle_stop angle = elim stop [ inl e ↦ rw e | inr e ↦ rw e ]
@@ -160,28 +168,28 @@ module _ (b : ℕ) (c : Chunk) (stop : (b ≡ brace_open) ⊎ (b ≡ semicolon))
     abbrev level : ℕ
     level = 4096 + c.opened - c.closed
 
-    abbrev MissesMet : Option Ends → (angle opened closed : ℕ) → Type 0
+    abbrev MissesMet : Option (Ends ℕ) → (angle opened closed : ℕ) → Type 0
     MissesMet o angle opened closed = MissesEnds (Some (ends_with o level c.downs)) angle opened closed
 
-    missed : (o : Option Ends) → EndsWithin c.downs o → (angle opened closed : ℕ) → MissesMet o angle opened closed → MissesEnds o angle opened closed
+    missed : (o : Option (Ends ℕ)) → EndsWithin c.downs o → (angle opened closed : ℕ) → MissesMet o angle opened closed → MissesEnds o angle opened closed
     missed None h angle opened closed m = tt
     missed (Some e) h angle opened closed (inl m) = inl (omega (arith, m, h.0))
     missed (Some e) h angle opened closed (inr (inl m)) = inr (inl (omega (arith, m)))
     missed (Some e) h angle opened closed (inr (inr m)) = inr (inr (omega (arith, m)))
 
     -- the level of the byte is between those of all
-    between : (o : Option Ends) → ((ends_with o level c.downs).low ≤ level) × (level ≤ (ends_with o level c.downs).high) × ((ends_with o level c.downs).ended ≡ c.downs)
+    between : (o : Option (Ends ℕ)) → ((ends_with o level c.downs).low ≤ level) × (level ≤ (ends_with o level c.downs).high) × ((ends_with o level c.downs).ended ≡ c.downs)
     between None = (omega arith, omega arith, refl)
     between (Some e) = (omega arith, omega arith, refl)
 
-    not_flat : (o : Option Ends) (angle opened closed : ℕ) → MissesMet o angle opened closed → flat (angle - c.downs + c.ups) (opened + c.opened) (closed + c.closed) ≡ false
+    not_flat : (o : Option (Ends ℕ)) (angle opened closed : ℕ) → MissesMet o angle opened closed → flat (angle - c.downs + c.ups) (opened + c.opened) (closed + c.closed) ≡ false
     not_flat o angle opened closed (inl m) = angle_raised (angle - c.downs + c.ups) (opened + c.opened) (closed + c.closed) (omega (arith, m, (between o).2))
     not_flat o angle opened closed (inr (inl m)) =
         squares_raised (angle - c.downs + c.ups) (opened + c.opened) (closed + c.closed) (λ e. omega (arith, m, e, w.closed-most, (between o).0))
     not_flat o angle opened closed (inr (inr m)) =
         squares_raised (angle - c.downs + c.ups) (opened + c.opened) (closed + c.closed) (λ e. omega (arith, m, e, w.closed-most, (between o).1))
 
-    ends_low : (n : ℕ) → n ≤ 4095 → c.opened ≤ n → (o : Option Ends) → EndsWithin c.downs o → EndsWithin c.downs (Some (ends_with o level c.downs))
+    ends_low : (n : ℕ) → n ≤ 4095 → c.opened ≤ n → (o : Option (Ends ℕ)) → EndsWithin c.downs o → EndsWithin c.downs (Some (ends_with o level c.downs))
     ends_low n k h None v = (omega arith, omega (arith, k, h), omega (arith, k, h))
     ends_low n k h (Some e) v = (omega arith, omega (arith, v.1), omega (arith, k, h, v.2))
 
@@ -202,7 +210,7 @@ module _ (b : ℕ) (c : Chunk) (stop : (b ≡ brace_open) ⊎ (b ≡ semicolon))
         }
 
 -- where there are no bytes, nothing changes
-pub body-none : (s : List ℕ) (from : ℕ) (c : Chunk) → Within 0 c → PassesBody s from from c
+pub body-none : (s : List ℕ) (from : ℕ) (c : Chunk ℕ) → Within 0 c → PassesBody s from from c
 body-none s from c w =
     let o : c.opened ≡ 0 = omega (arith, w.opened-most) in
     let k : c.closed ≡ 0 = omega (arith, w.closed-most) in
@@ -229,7 +237,7 @@ count-more x s from at n h e =
     rw (a, p, e)
 
 -- the sums of the bytes up to a place, and of the byte at it, are those up to the next place
-pub body-next : (s : List ℕ) (from at : ℕ) (c r : Chunk) → from ≤ at → at < length s → PassesBody s from at c → Within (at + 1 - from) r → Behind (get_or s at 0) c r → PassesBody s from (at + 1) r
+pub body-next : (s : List ℕ) (from at : ℕ) (c r : Chunk ℕ) → from ≤ at → at < length s → PassesBody s from at c → Within (at + 1 - from) r → Behind (get_or s at 0) c r → PassesBody s from (at + 1) r
 body-next s from at c r h i p w q =
     record {
       passes = λ angle opened closed m.

@@ -3,20 +3,22 @@ use Rattle.std.specs.Prelude.{ℕ, ◌+◌, ◌*◌, ◌/◌, ◌≤◌, ◌<◌
 use Rattle.std.proofs.Common.{subst, sym, inl, inr, arith, eqb-true, get_or-set_other, get_or-set_same}
 use Rattle.std.proofs.lemmas.Bool.{eqb-false}
 use Rattle.text_rules.specs.BytesLaws.{whether}
-use Rattle.chunks.specs.Passing.{PassesBody, PassesRound}
+use Rattle.chunks.specs.Passing.{LevelsFit, PassesBody, PassesRound}
+use Rattle.chunks.specs.Sums.{nothing}
 use Rattle.chunks.specs.declared.Far.TheVariants.{Often}
 use Rattle.chunks.specs.declared.Sums.{Sums}
 use Rattle.chunks.specs.declared.Table.{Table}
 
 -- the sums of no bytes, which stand where none are written
 abbrev pub no_sums : Sums
-no_sums = record { round = record { closed = 0; opened = 0 }; body = record { downs = 0; ups = 0; opened = 0; closed = 0; ends = None } }
+no_sums = record { round = record { closed = 0; opened = 0 }; body = nothing }
 
 -- what the sums of the chunk at a place tell
 pub record Entry (s : List ℕ) (at : ℕ) (x : Sums) : Type 0 where
   pub round : PassesRound s at (at + 4096) x.round
   pub opened-most : x.round.opened ≤ 4096
   pub body : PassesBody s at (at + 4096) x.body
+  pub levels : LevelsFit x.body.ends
 
 -- where the sums are written, each tells of its chunk
 pub record Summed (s : List ℕ) (t : Table) : Type 0 where

@@ -5,7 +5,7 @@
 ghost use Rattle.std.specs.Prelude.{◌≡◌, true, [], ◌∷◌, ◌+◌, ◌-◌, ◌≤◌, ◌<◌, ℕ, List, length};
 ghost use Rattle.text_rules.specs.Classes.{angle_close, brace_open, semicolon};
 ghost use Rattle.flat.specs.Body.{Counted};
-ghost use Rattle.chunks.specs.Passing.{Misses, PassesBody, PassesRound, TellsChunk, TellsCounts, TellsDepth};
+ghost use Rattle.chunks.specs.Passing.{LevelsFit, Misses, PassesBody, PassesRound, TellsChunk, TellsCounts, TellsDepth};
 ghost use Rattle.chunks.specs.PastLaws.{counts_past};
 ghost use Rattle.chunks.specs.Sums.{Behind, Within, ends_with};
 ghost use Rattle.chunks.specs.Table.{Summed, TellsSums};
@@ -21,10 +21,10 @@ const MOST: usize = 4096;
 const OFTEN: u16 = 16;
 
 // The level of square brackets at which a chunk begins.
-const BASE: u16 = 4096;
+const BASE: usize = 4096;
 
 // The round brackets of some bytes, at most as many as a chunk has: those that close one from before, and those that are not closed there.
-#[derive(Clone, Copy, Default)]
+#[derive(Clone, Copy)]
 pub struct Round {
     pub closed: u16,
     pub opened: u16,
@@ -33,21 +33,21 @@ pub struct Round {
 // The `{` and `;` of some bytes that stand outside the angle brackets that are opened there: the lowest and the highest level of square brackets at
 // which one stands, and how many `>` that close a `<` from before stand before the last of them.
 #[derive(Clone, Copy)]
-pub struct Ends {
-    pub low: u16,
-    pub high: u16,
-    pub ended: u16,
+pub struct Ends<N = usize> {
+    pub low: N,
+    pub high: N,
+    pub ended: N,
 }
 
-// What some bytes, at most as many as a chunk has, do to a search for a body: `>` that close a `<` from before, `<` that are not closed there, `[`,
-// `]`, and the `{` and `;` at which the search may end, if there are any.
-#[derive(Clone, Copy, Default)]
-pub struct Chunk {
-    pub downs: u16,
-    pub ups: u16,
-    pub opened: u16,
-    pub closed: u16,
-    pub ends: Option<Ends>,
+// What some bytes do to a search for a body: `>` that close a `<` from before, `<` that are not closed there, `[`,
+// `]`, and the `{` and `;` at which the search may end, if there are any. The table keeps these numbers in 16 bits.
+#[derive(Clone, Copy)]
+pub struct Chunk<N = usize> {
+    pub downs: N,
+    pub ups: N,
+    pub opened: N,
+    pub closed: N,
+    pub ends: Option<Ends<N>>,
 }
 
 // The round brackets from one place to another that have no partner there.
@@ -77,7 +77,7 @@ fn closed_angle(c: Chunk) -> Chunk
 }
 
 // The `{` and `;` with one more, at a level and behind so many `>`.
-fn with_end(ends: Option<Ends>, level: u16, ended: u16) -> Ends
+fn with_end(ends: Option<Ends>, level: usize, ended: usize) -> Ends
     ensures { result ≡ ends_with ends level ended }
 {
     match ends {
@@ -138,7 +138,13 @@ pub fn body_sum(s: &[u8], from: usize, to: usize) -> Chunk
     requires { (from ≤ to) × (to ≤ length s.now) × (to ≤ from + 4096) }
     ensures { PassesBody s.now from to result × Within (to - from) result }
 {
-    let mut c = Chunk::default();
+    let mut c = Chunk {
+        downs: 0,
+        ups: 0,
+        opened: 0,
+        closed: 0,
+        ends: None,
+    };
     for at in from..to {
         c = sums_after(s[at], c);
     }
@@ -156,36 +162,86 @@ pub fn edge_after(at: usize, end: usize) -> usize
 
 // Whether a search with these counts does not end in a chunk.
 pub fn misses(c: Chunk, n: Counts) -> bool
-    requires { Counted n 9223372036854775807 }
+    requires { LevelsFit c.ends × Counted n 9223372036854775807 }
     ensures { result ≡ true → Misses c n.angle n.opened n.closed }
 {
     let Some(e) = c.ends else {
         return true;
     };
-    let level = usize::from(BASE) + n.closed;
-    usize::from(e.ended) < n.angle
-        || level < usize::from(e.low) + n.opened
-        || usize::from(e.high) + n.opened < level
+    let level = BASE + n.closed;
+    e.ended < n.angle || level < e.low + n.opened || e.high + n.opened < level
 }
 
 // What a search has counted behind a chunk.
 pub fn counts_past(c: Chunk, n: Counts) -> Counts
-    requires { Counted n 9223372036854775807 }
+    requires { (c.ups ≤ 4096) × (c.opened ≤ 4096) × (c.closed ≤ 4096) × Counted n 9223372036854775807 }
     ensures { result ≡ counts_past c n }
 {
     Counts {
-        angle: n.angle.saturating_sub(usize::from(c.downs)) + usize::from(c.ups),
-        opened: n.opened + usize::from(c.opened),
-        closed: n.closed + usize::from(c.closed),
+        angle: n.angle.saturating_sub(c.downs) + c.ups,
+        opened: n.opened + c.opened,
+        closed: n.closed + c.closed,
+    }
+}
+
+// The sums of a chunk in 16 bits, as the table keeps them.
+fn stored(c: Chunk) -> Chunk<u16>
+    requires { Within 4096 c }
+    ensures { result ≡ c }
+{
+    Chunk {
+        downs: c.downs as u16,
+        ups: c.ups as u16,
+        opened: c.opened as u16,
+        closed: c.closed as u16,
+        ends: c.ends.map(|e| Ends {
+            low: e.low as u16,
+            high: e.high as u16,
+            ended: e.ended as u16,
+        }),
+    }
+}
+
+impl From<Chunk<u16>> for Chunk {
+    // The sums that the table keeps.
+    fn from(c: Chunk<u16>) -> Chunk
+        ensures { result ≡ c }
+    {
+        Chunk {
+            downs: usize::from(c.downs),
+            ups: usize::from(c.ups),
+            opened: usize::from(c.opened),
+            closed: usize::from(c.closed),
+            ends: c.ends.map(|e| Ends {
+                low: usize::from(e.low),
+                high: usize::from(e.high),
+                ended: usize::from(e.ended),
+            }),
+        }
     }
 }
 
 // The sums of a chunk.
-#[derive(Clone, Copy, Default)]
+#[derive(Clone, Copy)]
 struct Sums {
     round: Round,
-    body: Chunk,
+    body: Chunk<u16>,
 }
+
+// Those that stand in the table before any are written.
+const NO_SUMS: Sums = Sums {
+    round: Round {
+        closed: 0,
+        opened: 0,
+    },
+    body: Chunk {
+        downs: 0,
+        ups: 0,
+        opened: 0,
+        closed: 0,
+        ends: None,
+    },
+};
 
 // How many searches went far: a few so many, or so many that the sums are written.
 #[derive(Clone, Copy)]
@@ -208,7 +264,7 @@ impl Table {
     {
         Table {
             far: Far::Few(0),
-            sums: [Sums::default(); MOST],
+            sums: [NO_SUMS; MOST],
         }
     }
 
@@ -220,7 +276,7 @@ impl Table {
     }
 
     // The sums of all chunks are written.
-    #[tactic(auto, using(crate::specs::Table::written_more))]
+    #[tactic(auto, using(crate::specs::Table::written_more, crate::specs::Sums::levels_within))]
     fn write(&mut self, s: &[u8])
         ensures { Summed s.now self.new }
     {
@@ -229,7 +285,7 @@ impl Table {
             let at = j * SIZE;
             self.sums[j] = Sums {
                 round: round_sum(s, at, at + SIZE),
-                body: body_sum(s, at, at + SIZE),
+                body: stored(body_sum(s, at, at + SIZE)),
             };
         }
         self.far = Far::Often;
@@ -276,7 +332,7 @@ impl TextSums<'_> {
         ensures { TellsChunk self.entry.text.now at result }
     {
         let sums = self.sums_at(at)?;
-        Some(sums.body)
+        Some(Chunk::from(sums.body))
     }
 
     // A search for the partner of a round bracket at a chunk: how many are open inside the bracket behind it. None where the partner may be met
@@ -291,7 +347,7 @@ impl TextSums<'_> {
     }
 
     // A search for a body at a chunk: what it has counted behind it. None where it may end in it.
-    #[tactic(auto, using(crate::specs::PastLaws::body_further))]
+    #[tactic(auto, using(crate::specs::PastLaws::counted_further, crate::specs::PastLaws::body_further))]
     pub fn body_past(self, at: usize, n: Counts) -> Option<Counts>
         requires { Counted n at }
         ensures { TellsCounts self.entry.text.now at n result }

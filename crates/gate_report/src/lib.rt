@@ -1,7 +1,7 @@
 // The report: how many functions a tree has, their mean, the rows of those over the limits, the ten heaviest files, and a table of sums.
 // Kept: a host lends each buffer on its own, as C passes it, so that no struct holds the buffers of a call.
-// Kept: `report` and `report_alone` promise the gate's limits by name. A limit is no type and no constant parameter, and a parameter has no default,
-// so that `report_with` and `report_alone_with` alone could not promise them to a caller who names none.
+// Kept: hosts and programs call `report` and `report_alone` by these names, and their contracts are in the rules' words for them. With `report_with`
+// and `report_alone_with` alone each would bring the gate's limits, and prove that they are these.
 #![tactic(auto)]
 
 ghost use Rattle.std.specs.Prelude.{◌≡◌, map, ◌+◌, ◌≤◌, length};

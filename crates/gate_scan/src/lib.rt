@@ -81,6 +81,7 @@ fn scan_text<'a>(
 {
     cursor.begin(s);
     let mut n = done;
+    // Kept: `n` is counted beside the functions, since the count is the answer.
     for f in &mut *cursor {
         put_numbered(lent, n, record_of(number, place, f));
         n += 1;

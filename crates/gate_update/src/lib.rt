@@ -53,8 +53,8 @@ pub fn update_with(
 }
 
 // The call update: the refusals 1 to 5, 8 and 9; the baseline of the functions over the gate's limits.
-// Kept: its contract promises the gate's limits by name. A limit is no type and no constant parameter, and a parameter has no default, so that
-// `update_with` alone could not promise them to a caller who names none.
+// Kept: hosts and programs call it by this name, and its contract is in the rules' words for them. With `update_with` alone each would bring the
+// gate's limits, and prove that they are these.
 pub fn update(
     tree: &[u8],
     work: &mut [u8],

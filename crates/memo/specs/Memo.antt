@@ -23,7 +23,7 @@ TellsPast s at to n (Some m) = (at + 4096 ≤ to) × (body_from s at n ≡ body_
 TellsPast s at to n None = ℕ
 
 -- a search that does not end in some bytes goes on behind them
-pub goes_past : (s : List ℕ) (from to : ℕ) (c : Chunk) (n : Counts) → from ≤ to → PassesBody s from to c → Counted n from → Misses c n.angle n.opened n.closed
+pub goes_past : (s : List ℕ) (from to : ℕ) (c : Chunk ℕ) (n : Counts) → from ≤ to → PassesBody s from to c → Counted n from → Misses c n.angle n.opened n.closed
     → (body_from s from n ≡ body_from s to (counts_past c n)) × Counted (counts_past c n) to
 goes_past s from to c n l p k m =
     let o : c.opened ≤ to - from = omega (arith, p.opened-is, count_most square_open s from (to - from)) in

@@ -4,7 +4,7 @@
 
 ghost use Rattle.std.specs.Prelude.{◌≡◌, true, ℕ, ◌+◌, ◌≤◌, ◌<◌, List, Option, length, MatchOption};
 ghost use Rattle.flat.specs.Body.{Counted, Reaches, body_from};
-ghost use Rattle.chunks.specs.Passing.{PassesBody};
+ghost use Rattle.chunks.specs.Passing.{LevelsFit, PassesBody};
 ghost use Rattle.memo.specs.Memo.{AllCounted, Entry, Forgotten, Holds, Keeps, Known, Recalls, TellsPast};
 
 use chunks::{Chunk, TextSums};
@@ -33,7 +33,7 @@ pub fn body_until(text: TextSums, from: usize, to: usize, n: Counts) -> Reached
 {
     let mut at = from;
     let mut counts = n;
-    // Kept: a step is a chunk, or the bytes up to the next one, so no `for` counts the steps.
+    // Kept: a step is a chunk, or the bytes up to the next one. An iterator of such steps would serve this loop alone.
     while at < to {
         match past_before(text, at, to, counts) {
             Some(k) => {
@@ -65,7 +65,9 @@ pub fn body_until(text: TextSums, from: usize, to: usize, n: Counts) -> Reached
 fn body_behind(text: TextSums, from: usize, to: usize, c: Chunk, n: Counts) -> Reached
     requires { (from ≤ to)
         × (to ≤ length text.text.now)
+        × (to ≤ from + 4096)
         × Counted n from
+        × LevelsFit c.ends
         × PassesBody text.text.now from to c }
     ensures { Reaches text.entry.text.now from to n result }
 {
@@ -95,7 +97,9 @@ impl Search {
     fn moved(self, text: TextSums, from: usize, to: usize, c: Chunk) -> Option<Search>
         requires { (from ≤ to)
             × (to ≤ length text.text.now)
+            × (to ≤ from + 4096)
             × Holds text.text.now from self
+            × LevelsFit c.ends
             × PassesBody text.text.now from to c }
         ensures { Entry text.entry.text.now to result }
     {
@@ -138,7 +142,7 @@ impl Kept {
     }
 
     // All searches come to a place that is at most a chunk further on. Those that end before it are given up.
-    #[tactic(auto, using(crate::specs::Moving::one_more, crate::specs::Moving::all_there))]
+    #[tactic(auto, using(crate::specs::Moving::one_more, crate::specs::Moving::all_there, chunks::specs::Sums::levels_within))]
     fn move_all(&mut self, text: TextSums, to: usize)
         requires { (self.old.at ≤ to)
             × (to ≤ self.old.at + 4096)
@@ -188,6 +192,7 @@ impl Kept {
     // What a search finds that has so much counted at a place, a brace or none; None where that is not known. The place is kept. Searches that are
     // kept for a place further on are given up, and all of them where none goes as far as the place: where searches do not overlap there is nothing
     // to find, and nothing is read twice.
+    // Kept: that the searches are those of the text stands in the clauses here. The text is lent by the value that holds both, whose invariant it is.
     #[tactic(auto, using(chunks::specs::PastLaws::counted_further, crate::specs::Memo::all_counted))]
     pub fn recall(&mut self, text: TextSums, at: usize, n: Counts) -> Option<Option<usize>>
         requires { (at ≤ length text.text.now) × Counted n at × Recalls text.text.now self.old }
@@ -203,7 +208,7 @@ impl Kept {
         self.find(n)
     }
 
-    // Where the next search is kept: at an index that keeps none, or that of the search whose turn it is.
+    // Where the next search is kept: at an index that keeps none, or else behind the last one that was taken.
     fn free_index(&self) -> usize
         ensures { result < 64 }
     {
@@ -213,7 +218,8 @@ impl Kept {
             .unwrap_or(self.turn % MOST)
     }
 
-    // A search is kept with what it finds, in place of another where all indices keep one. It goes as far as `end`: nothing rests on that but time.
+    // A search is kept with what it finds, in place of another where all indices keep one. It goes as far as `end`, which
+    // decides only how long later searches take.
     pub fn keep(&mut self, n: Counts, found: Option<usize>, end: usize)
         ensures { Keeps n found self.old self.new }
     {

@@ -17,8 +17,8 @@ use windows::{Note, Window};
 mod part;
 
 // What a pass over the text has met: the brackets of the part that wait, the last one on top; how many from behind the part are open inside them;
-// and the brackets that are closed, in this order, with the places behind their partners. The places stand in a list of their own, since searches for
-// bodies begin there.
+// and the brackets that are closed, in this order, with the places behind their partners.
+// Kept: the places stand in a list of their own, since searches for bodies begin there and take them as a slice.
 #[derive(Drop)]
 struct Pass<'a> {
     part: Part<'a>,
@@ -141,7 +141,7 @@ impl<'a> Pass<'a> {
         ensures order { InOrder self.new }
     {
         let mut at = from;
-        // Kept: a turn is a chunk or a part of one, so no `for` counts the turns.
+        // Kept: a turn is a chunk or a part of one. An iterator of such turns would serve this loop alone.
         while at < self.part.text.text.len() && !self.opens.is_empty() {
             at = self.turn(at);
         }

@@ -13,7 +13,7 @@ use search::Met;
 
 // The partner of a `(`, sought to the end of the text from a place at which so many are open inside it. Chunks are passed, or read up to the next.
 // Kept: `body_until` of memo goes by the same steps, but what it counts, how it passes a chunk or reads on, and what ends it differ. One function for
-// both would take each of these as a parameter, and is no plainer.
+// both would need a trait with two methods and their laws, and a type with an impl for each: more than the two loops.
 fn far_end(text: TextSums, from: usize, depth: usize) -> Option<usize>
     requires { (from ≤ length text.text.now) × (depth ≤ from) }
     ensures { place_of result ≡ sought_from text.entry.text.now from depth }
@@ -21,7 +21,7 @@ fn far_end(text: TextSums, from: usize, depth: usize) -> Option<usize>
     let s = text.text;
     let mut at = from;
     let mut inner = depth;
-    // Kept: a step is a chunk, or what is left of one, so no `for` counts the steps.
+    // Kept: a step is a chunk, or what is left of one. An iterator of such steps would serve this loop alone.
     while at < s.len() {
         match text.round_past(at, inner) {
             Some(d) => {

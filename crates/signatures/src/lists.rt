@@ -34,7 +34,7 @@ impl<'a> Model for Lists<'a> {
     ghost invariant = { λ l. Noted (NoteTells l.text.now) l.window × Summed l.text.now l.sums };
 }
 
-// What follows a `(`, and how far the search for the body went, at most: nothing rests on that but time.
+// What follows a `(`, and how far the search for the body went, at most. That decides only how long later searches take.
 #[derive(Clone, Copy)]
 pub struct Went {
     pub sought: Option<Signature>,

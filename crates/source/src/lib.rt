@@ -29,8 +29,8 @@ pub struct Cursor<'a> {
     // the end of the last test span, and of the last body
     span_end: usize,
     resume: usize,
-    // What was sought in vain is not sought again: no test span begins from `at` up to the first place, no name that ends from the second up to
-    // the third is a function's.
+    // What was sought and not found is not sought again: no test span begins from `at` up to the first place, no name that ends from the second up
+    // to the third is a function's.
     spanless: usize,
     barren_from: usize,
     barren_to: usize,
@@ -254,7 +254,7 @@ impl<'a> Iterator for Cursor<'a> {
 
     // The next function of the text.
     fn next(&mut self) -> Option<Found> {
-        // Kept: a turn passes a run of bytes of any length, so no `for` counts the turns.
+        // Kept: inside `next` a turn passes a run of bytes of any length, and an iterator of such turns would serve this loop alone.
         while self.pass_quiet() {
             let found = self.turn_at();
             if found.is_some() {

@@ -38,7 +38,7 @@ pub struct Window {
 }
 
 impl Window {
-    // No place.
+    // Nothing is noted of any place.
     pub fn new() -> Window
         ensures { (at : ℕ) → noted result at ≡ Nothing }
     {
@@ -48,7 +48,7 @@ impl Window {
         }
     }
 
-    // No place is left.
+    // Nothing is noted of any place. The notes are changed where they stand, since they are large.
     pub fn clear(&mut self)
         ensures { (at : ℕ) → noted self.new at ≡ Nothing }
     {

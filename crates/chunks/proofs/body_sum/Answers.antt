@@ -1,14 +1,11 @@
 -- `chunks::body_sum` meets its contract: at each turn the sums are those of the bytes before the place.
 use Prim.Native.Nat.{◌-◌, ◌+◌}
 use native.Mathlib.Omega.{arith}
-use Rattle.chunks.specs.Sums.{body-next, body-none, within_more, within_none}
+use Rattle.chunks.specs.Sums.{body-next, body-none, nothing, within_more, within_none}
 use Rattle.chunks.proofs.body_sum.Goals as goal
 
 pub loop-at-init : goal.loop-at-init
-loop-at-init c =
-    let e = c.default-c.ensures in
-    let w = within_none c.default-c.result e.0 e.1.0 e.1.1.0 e.1.1.1.0 e.1.1.1.1 in
-    (within_more 0 _ _ (omega arith) w, body-none c.args.s.now c.args.from c.default-c.result w)
+loop-at-init c = (within_more 0 _ nothing (omega arith) within_none, body-none c.args.s.now c.args.from nothing within_none)
 
 pub loop-at-preserved : goal.loop-at-preserved
 loop-at-preserved c =
