@@ -21,8 +21,8 @@
    after another without gaps. Paths rise in byte order, where / counts below every other byte.
    A record: file number, start of the name in the tree, its length, line, lines, cyclomatic number, nesting, parameters.
 
-   No call takes memory beside what is lent. complexity_check uses some 365 KB of stack, complexity_update and complexity_report some 275 KB,
-   complexity_scan some 205 KB, complexity_blank less than 5 KB. */
+   No call takes memory beside what is lent. complexity_check uses some 235 KB of stack, complexity_update, complexity_report and
+   complexity_scan some 215 KB, complexity_blank less than 5 KB. */
 #ifndef COMPLEXITY_H
 #define COMPLEXITY_H
 

@@ -39,8 +39,16 @@ pub fn line_end(s: &[u8], from: usize) -> usize
     next(s, blocks::past(s, from, LF), LF)
 }
 
+// The same, for a place that few bytes stand behind in its line: no block is asked.
+pub fn near_line_end(s: &[u8], from: usize) -> usize
+    requires { from ≤ length s.now }
+    ensures { (result ≡ from + bytes_before lf (drop from s.now)) × (from ≤ result) × (result ≤ length s.now) }
+{
+    next(s, from, LF)
+}
+
 // Where the bytes of a line end: before one CR, where an LF ends the line.
-fn trimmed_end(s: &[u8], from: usize, end: usize) -> usize
+pub fn trimmed_end(s: &[u8], from: usize, end: usize) -> usize
     requires { (from ≤ end) × (end ≤ length s.now) }
     ensures { (part from result s.now ≡ line_at s.now from end) × (from ≤ result) × (result ≤ end) }
 {
@@ -321,6 +329,7 @@ pub struct FunctionKey<'a> {
 
 impl FunctionKey<'_> {
     // Whether the bytes are those of the key. The name is compared first: it tells the functions of a file apart.
+    #[inline(always)]
     pub fn is(self, key: &[u8]) -> bool
         ensures { result ≡ same key.now (key_bytes self.entry) }
     {

@@ -98,6 +98,8 @@ fn write_batch(keys: &Keys<'_>, w: &mut Writer<'_>)
 }
 
 // How many stale keys there are, and the bytes of their lines. A batch that leaves a place free is the last one.
+// It is no part of its caller, as little as what writes the lines: so the keys of the two do not lie on the stack at once.
+#[inline(never)]
 pub fn measure(fs: Functions, baseline: Baseline) -> Size
     requires { is_utf8 baseline.lines.now ≡ true }
     ensures { Sizes result.count result.bytes (stale_in fs.entry.tree.now baseline.entry.lines.now) }
@@ -118,6 +120,7 @@ pub fn measure(fs: Functions, baseline: Baseline) -> Size
 }
 
 // The lines of the stale keys.
+#[inline(never)]
 pub fn write_all(fs: Functions, baseline: Baseline, w: &mut Writer<'_>)
     requires { Room (key_lines (stale_in fs.tree.now baseline.lines.now)) w.old }
     ensures { Writes (key_lines (stale_in fs.entry.tree.now baseline.entry.lines.now)) w.old w.new }

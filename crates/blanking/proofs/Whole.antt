@@ -6,7 +6,7 @@ use Prim.Native.Nat.{ℕ, zero, suc, pred, ◌+◌, ◌-◌, ◌≤◌, ◌<◌}
 use native.Mathlib.Numerals.{add-one}
 use native.Mathlib.Omega.{arith}
 use borrow.Author.Tests.{eq-eqb, ne_eqb, lt-ltb, le-ltb}
-use lib.ListN.{length, length-set, get_or, take, drop, set, take-append-drop, drop_of_length-le}
+use lib.ListN.{length, get_or, take, drop, set, take-append-drop, drop_of_length-le}
 use lib.Seq.{take-suc-set, drop-set-lt, drop-drop}
 use Rattle.text_rules.specs.Answer.{Answer}
 use Rattle.text_rules.specs.Bytes.{◌or_else◌}
@@ -18,7 +18,7 @@ use Rattle.text_rules.specs.Sizes.{max_tree}
 use Rattle.source_rules.specs.Blank.{blank_from, blanked, put, token_length}
 use Rattle.source_rules.specs.BlankCall.{blank_call, blank_number, blank_output}
 use Rattle.source_rules.proofs.BlankLaws.{blanked-length}
-use Rattle.blanking.specs.Bare.{Answered, NoToken, finished}
+use Rattle.blanking.specs.Bare.{Answered, finished}
 
 pub put-lf : (b : ℕ) → b ≡ lf → put 1 b ≡ lf
 unfolding put
@@ -79,29 +79,6 @@ module _ (s out : List ℕ) (i : ℕ) where
   ended e =
       let n : length s ≤ i = omega arith in
       rw (drop_of_length-le s n, e, take-append-drop)
-
--- bytes at which no token begins, all at once
-after_first : (s out : List ℕ) (m from : ℕ) → from < length s → length s ≤ length out
-    → take from out ++ (take (suc m) (drop from s) ++ drop (suc m) (drop from out))
-    ≡ take (from + 1) (set out from (get_or s from 0)) ++ (take m (drop (from + 1) s) ++ drop m (drop (from + 1) (set out from (get_or s from 0))))
-after_first s out m from h f =
-    let v = get_or s from 0 in
-    let l : from < length out = omega arith in
-    let k : from + suc m ≡ suc from + m = omega arith in
-    let d : drop (suc m) (drop from out) ≡ drop m (drop (suc from) out) = drop-drop (suc m) from out ∙ ap (λ i. drop i out) k ∙ sym (drop-drop m (suc from) out) in
-    rw (split s from h, d, add-one from, take-suc-set out from v l, drop-set-lt (suc from) out from v (omega arith), append_assoc)
-
-pub copied_all : (s : List ℕ) (to : ℕ) → to ≤ length s → (n from : ℕ) (out : List ℕ) → from + n ≡ to → length s ≤ length out → NoToken s from to
-    → finished s (take from out ++ (take n (drop from s) ++ drop n (drop from out))) to to ≡ finished s out from from
-copied_all s to h zero from out e f none =
-    let same : to ≡ from = omega (arith, e) in
-    rw (same, take-append-drop)
-copied_all s to h (suc m) from out e f none =
-    let v = get_or s from 0 in
-    let l : from < length s = omega (arith, e) in
-    ap (λ o. finished s o to to) (after_first s out m from l f)
-    ∙ copied_all s to h m (from + 1) (set out from v) (omega (arith, e)) (omega (arith, length-set out from v, f)) (λ i k l. none i (omega (arith, k)) l)
-    ∙ copied s out from l f (none from (omega arith) (omega (arith, e)))
 
 pub started : (s out : List ℕ) → finished s out 0 0 ≡ blanked s ++ drop (length s) out
 unfolding blanked

@@ -58,12 +58,12 @@ pub fn past_while<F: Fn(u8) -> bool>(s: &[u8], from: usize, test: F) -> usize
     ensures high { result ≤ length s.now }
     ensures passed { (k : ℕ) → from ≤ k → k < result → F.post test (get_or s.now k 0) true }
 {
-    for at in (from..s.len()).step_by(WIDTH) {
-        if s.len() - at < WIDTH || !passes(s, at, &test) {
-            return at;
-        }
+    let mut at = from;
+    // Kept: blocks are passed in a loop that asks once whether one fits. A range of steps asks twice, at each block, and costs a third more.
+    while WIDTH <= s.len() - at && passes(s, at, &test) {
+        at += WIDTH;
     }
-    s.len()
+    at
 }
 
 // Past the blocks of ASCII from a place on. DEL, 127, counts as beyond: the compiler makes more instructions of a test of the highest bit.

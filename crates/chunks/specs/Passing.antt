@@ -40,6 +40,7 @@ LevelsFit ends = ForSome ends (λ e. (e.low ≤ 65535) × (e.high ≤ 65535))
 pub record Summary (s : List ℕ) (at : ℕ) (c : Chunk ℕ) : Type 0 where
   pub inside : at + 4096 ≤ length s
   pub passing : PassesBody s at (at + 4096) c
+  pub downs_most : c.downs ≤ 65535
   pub levels : LevelsFit c.ends
 
 abbrev pub TellsChunk : List ℕ → (at : ℕ) → Option (Chunk ℕ) → Type 0

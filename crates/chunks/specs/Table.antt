@@ -18,6 +18,7 @@ pub record Entry (s : List ℕ) (at : ℕ) (x : Sums) : Type 0 where
   pub round : PassesRound s at (at + 4096) x.round
   pub opened-most : x.round.opened ≤ 4096
   pub body : PassesBody s at (at + 4096) x.body
+  pub downs_most : x.body.downs ≤ 65535
   pub levels : LevelsFit x.body.ends
 
 -- where the sums are written, each tells of its chunk

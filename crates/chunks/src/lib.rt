@@ -9,6 +9,7 @@ ghost use Rattle.chunks.specs.Passing.{LevelsFit, Misses, PassesBody, PassesRoun
 ghost use Rattle.chunks.specs.PastLaws.{counts_past};
 ghost use Rattle.chunks.specs.Sums.{Behind, Within, ends_with};
 ghost use Rattle.chunks.specs.Table.{Summed, TellsSums};
+ghost use Rattle.chunks.specs.declared.Far.TheVariants.{Few};
 
 use flat::Counts;
 
@@ -251,16 +252,17 @@ enum Far {
 }
 
 // The sums of the chunks of a text. It is lent to the searches in the text.
-#[derive(Drop)]
+#[derive(Clone, Copy)]
 pub struct Table {
     far: Far,
     sums: [Sums; MOST],
 }
 
 impl Table {
-    // Nothing is told.
+    // Nothing is told, and no search is counted.
     pub fn new() -> Table
-        ensures { (s : List ℕ) → Summed s result }
+        ensures nothing { (s : List ℕ) → Summed s result }
+        ensures none_counted { result.far ≡ Few 0 }
     {
         Table {
             far: Far::Few(0),
@@ -268,9 +270,10 @@ impl Table {
         }
     }
 
-    // Nothing is told any more.
+    // Nothing is told any more, and no search is counted.
     pub fn clear(&mut self)
-        ensures { (s : List ℕ) → Summed s self.new }
+        ensures nothing { (s : List ℕ) → Summed s self.new }
+        ensures none_counted { self.new.far ≡ Few 0 }
     {
         self.far = Far::Few(0);
     }

@@ -1,6 +1,7 @@
 -- A record that is read from the bytes in which the records of a tree stand tells of the function with its number.
 use Prim.Native.Nat.{ℕ, zero, suc, ◌+◌, ◌*◌, ◌≤◌, ◌<◌}
-use mathlib.Core.Path.{◌≡◌, refl, ap, sym, ◌∙◌}
+use mathlib.Core.Bool.{true}
+use mathlib.Core.Path.{◌≡◌, refl, ap, ap₂, sym, ◌∙◌}
 use mathlib.Core.List.{List, [], ◌∷◌, ◌++◌, append_assoc, map}
 use native.Mathlib.Omega.{arith}
 use lib.ListN.{length, drop, get_or, length-append, length-take, take-append-drop, get_or-map}
@@ -22,9 +23,12 @@ use Rattle.gate_rules.specs.Gate.{gate}
 use Rattle.gate_rules.specs.Records.{name_of, record_bytes, record_of, records, records_in, records_of_files, viewed}
 use Rattle.gate_rules.proofs.RecordsLaws.{functions-viewed, record_u32, records-count}
 use Rattle.gate_rules.specs.Scan.{functions_of}
-use Rattle.gate_rules.specs.Tree.{Source, entry_at, file_count, path_length, path_of, path_offset, source_at, sources, sources_from}
+use Rattle.gate_rules.specs.Tree.{Source, entry_at, file_count, is_laid_out, path_length, path_of, path_offset, source_at, sources, sources_from}
 use Rattle.gate_rules.proofs.TreeLaws.{InTree, SoundTree, sources-placed, unrefused}
-use Rattle.functions.specs.Shown.{Stand, no_fun}
+use Rattle.records.specs.Record.{ReadAt}
+use Rattle.records.specs.declared.Record.{Record}
+use Rattle.functions.specs.Shown.{Bounded, Stand, no_fun}
+use Rattle.functions.specs.declared.Places.{Places}
 
 -- what holds of a record of a tree
 pub record Tells (tree r : List ℕ) : Type 0 where
@@ -173,3 +177,53 @@ module _ (tree lent : List ℕ) (st : Stand tree lent) (k : ℕ) (h : k < length
       let same : f ≡ viewed tree here =
       λ i. record { path = path i; name = name i; line = b.line-is i; lines = b.lines-is i; cyclomatic = b.cyclomatic-is i; nesting = b.nesting-is i; params = b.params_is i } in
       same ∙ function_here
+
+  -- the record that is read from its place
+  module _ (r : Record) (e : ReadAt lent (k * record_width) r) where
+    file-here : r.file ≡ get_or here 0 0
+    file-here = e.file-is ∙ number_at 0 _ (omega arith) (omega arith)
+
+    -- its file has the function's path
+    pub path-here : (get_or (functions_of gate tree) k no_fun).path ≡ path_of tree r.file
+    unfolding viewed
+    path-here = ap (λ f. f.path) (sym function_here) ∙ ap (path_of tree) (sym file-here)
+
+    start-here : r.start ≡ get_or here 1 0
+    start-here = e.start_is ∙ number_at 1 _ (omega arith) (omega arith)
+
+    len-here : r.len ≡ get_or here 2 0
+    len-here = e.len_is ∙ number_at 2 _ (omega arith) (omega arith)
+
+    pub in_tree : (is_laid_out tree ≡ true) × (r.file < file_count tree) × (r.start + r.len ≤ length tree)
+    in_tree = (sound.laid, omega (arith, file-here, tells-here.file-there), omega (arith, start-here, len-here, tells-here.name-inside))
+
+    -- path and name by the places of which it tells, and its numbers
+    module _ (p : Places) (b : Bounded tree r p) where
+      abbrev read : Fun
+      read =
+          record {
+            path = part p.path_at p.path_end tree;
+            name = part p.name_at p.name_end tree;
+            line = r.line;
+            lines = r.lines;
+            cyclomatic = r.cyclomatic;
+            nesting = r.nesting;
+            params = r.params;
+          }
+
+      pub read-is : read ≡ get_or (functions_of gate tree) k no_fun
+      read-is =
+          shown-is read p.path_at p.path_end p.name_at p.name_end
+          record {
+            path-is = refl;
+            name-is = refl;
+            path-first = b.path-first ∙ ap (λ n. path_offset tree (entry_at n)) file-here;
+            path-last = b.path-last ∙ ap (λ n. path_offset tree (entry_at n) + path_length tree (entry_at n)) file-here;
+            name-first = b.name-first ∙ start-here;
+            name-last = b.name-last ∙ ap₂ ◌+◌ start-here len-here;
+            line-is = e.line-is ∙ number_at 3 _ (omega arith) (omega arith);
+            lines-is = e.lines-is ∙ number_at 4 _ (omega arith) (omega arith);
+            cyclomatic-is = e.cyclomatic-is ∙ number_at 5 _ (omega arith) (omega arith);
+            nesting-is = e.nesting-is ∙ number_at 6 _ (omega arith) (omega arith);
+            params_is = e.params_is ∙ number_at 7 _ (omega arith) (omega arith);
+          }

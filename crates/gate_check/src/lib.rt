@@ -107,7 +107,9 @@ impl Listing<'_> {
     }
 }
 
-// What check says of a scanned tree: 9, or the listing and its counts.
+// What check says of a scanned tree: 9, or the listing and its counts. It is no part of its caller, so that its places do not lie on the stack while
+// the tree is scanned.
+#[inline(never)]
 fn told<'a>(
     limits: Limits,
     functions: Functions<'a>,

@@ -14,6 +14,7 @@ ghost use Rattle.answers.specs.Numbers.{refusal_number};
 ghost use Rattle.functions.specs.Shown.{limits_of};
 ghost use Rattle.listing.specs.Writes.{Room, Writes};
 ghost use Rattle.report_files.specs.Files.{heaviest_files};
+ghost use Rattle.report_files.specs.Tops.{weights_in};
 ghost use Rattle.report_functions.specs.Counting.{Counted};
 ghost use Rattle.report_rows.specs.Texts.{head_length};
 ghost use Rattle.gate_report.specs.Listed.{Listed, report_told};
@@ -55,7 +56,7 @@ fn early(tree: &[u8], work: usize, entries: usize) -> Result<(), Refusal>
 // The bytes of the report.
 fn report_length(n: u32, counts: Counts, heaviest: &Heaviest<'_>) -> usize
     requires { (counts.branches ≤ 16777216) × (counts.bytes ≤ 70368744177664) }
-    ensures { result ≡ head_length n counts.branches counts.over + counts.bytes + 47 + length (weight_rows heaviest.now) }
+    ensures { result ≡ head_length n counts.branches counts.over + counts.bytes + 47 + length (weight_rows (weights_in heaviest.now)) }
 {
     let head = report_rows::head_length(n, counts.branches, counts.over);
     head + counts.bytes + FILES_LINE + heaviest.rows_length()
@@ -70,7 +71,7 @@ fn write_report(
     heaviest: &Heaviest<'_>,
 )
     requires { Counted (limits_of limits) (functions_of gate functions.tree.now) counts
-        × (heaviest.now ≡ heaviest_files functions.tree.now)
+        × (weights_in heaviest.now ≡ heaviest_files functions.tree.now)
         × Room (report_of gate (limits_of limits) functions.tree.now) w.old }
     ensures { Writes (report_of gate (limits_of limits) functions.entry.tree.now) w.old w.new }
 {
@@ -80,7 +81,9 @@ fn write_report(
     heaviest.write_rows(w);
 }
 
-// The report of functions, with the sums of their files. Its length is known before anything is written.
+// The report of functions, with the sums of their files. Its length is known before anything is written. It is no part of its caller, so that what it
+// keeps does not lie on the stack while a tree is scanned.
+#[inline(never)]
 fn listed(
     limits: Limits,
     functions: Functions,

@@ -1,5 +1,5 @@
 -- A line that follows the last key: it has the path of that key and another key behind it.
-use Rattle.std.specs.Prelude.{ℕ, Option, Some, None, ◌+◌, ◌-◌, ◌≤◌, ◌<◌, ◌≡◌, ◌≢◌, IfSome, false, List, eqb, ltb, length, get_or}
+use Rattle.std.specs.Prelude.{ℕ, Option, Some, None, ◌+◌, ◌-◌, ◌≤◌, ◌<◌, ◌≡◌, ◌≢◌, false, List, eqb, ltb, length, get_or}
 use Rattle.std.proofs.Common.{ap, sym, ◌∙◌, inl, inr, arith, eqb-true, le-ltb, ltb-false, ltb-true}
 use Rattle.std.proofs.Math.Option.{some}
 use Rattle.std.proofs.lemmas.Bool.{eqb-false}
@@ -13,16 +13,16 @@ use Rattle.live.specs.Live.{path_of}
 use Rattle.prefix.specs.Common.{common}
 use Rattle.key_lines.specs.Keys.{Meets, falls-past, falls-there, last-there, meets-line, repeats}
 use Rattle.key_lines.specs.Meets.{part-begins, part-byte, part_length}
-use Rattle.key_lines.specs.Next.{Behind, Follows, ReadNext}
+use Rattle.key_lines.specs.Next.{Behind, Follows, ReadOn}
 use Rattle.key_lines.specs.PlainKeys.{few, moved-to}
 use Rattle.key_lines.specs.declared.key.Key.{Key}
 use Rattle.key_lines.proofs.LineKeys.{plain-past, plain-path}
 use Rattle.in_order.specs.Paths.{same-path}
-use Rattle.in_order.specs.Walks.{Follows_on}
+use Rattle.in_order.specs.Walks.{ReadNext}
 use Rattle.in_order.specs.declared.walk.Walk.{Walk}
 
 -- the line that was read, if one was
-pub follows_read : (w : Walk) (k : Key) (r : Option Bounds) → w.last ≡ Some k → w.alike.end ≤ w.alike.start → ReadNext w.lines.now k w.from r → IfSome r (λ l. Follows_on w l)
+pub follows_read : (w : Walk) (k : Key) (r : Option Bounds) → w.last ≡ Some k → w.alike.to ≤ w.alike.from → ReadOn w.lines.now k w.from r → ReadNext w r
 follows_read w k (Some l) e i f = record { last = k; last-is = e; idle = i; follows = f }
 follows_read w k None e i f = tt
 

@@ -88,9 +88,9 @@ module _ (first old new : Walk) (l : Bounds) (size more : Size) (p : Passes firs
   follows : Follows s g.last old.from l
   follows = subst (λ (t : Bor (List ℕ)). Follows t.now g.last old.from l) p.same.lines-is g.follows
 
-  only : Only (part old.from l.name s) (functions_of gate first.functions.tree.now) old.alike.start old.alike.end
+  only : Only (part old.from l.name s) (functions_of gate first.functions.tree.now) old.alike.from old.alike.to
   only =
-      subst (λ (t : Functions). Only (part old.from l.name s) (functions_of gate t.tree.now) old.alike.start old.alike.end) p.same.functions-is
+      subst (λ (t : Functions). Only (part old.from l.name s) (functions_of gate t.tree.now) old.alike.from old.alike.to) p.same.functions-is
       (old.ranged g.last g.last-is (part old.from l.name s) (follow-own s g.last old.from l follows))
 
   pub passes-next : more.count ≡ size.count + 1 → more.bytes ≡ size.bytes + (3 + (l.name - old.from)) → Passes first more new
@@ -99,7 +99,7 @@ module _ (first old new : Walk) (l : Bounds) (size more : Size) (p : Passes firs
       let start = text_of first.last in
       let before = subst (λ t. Passed tree s start first.from size.count size.bytes t old.from) (ap text_of g.last-is) p.lines in
       let own = f.last-is ∙ ap (λ (t : Bor (List ℕ)). some (part old.from l.name t.now)) p.same.lines-is in
-      let passed = passed-next tree s g.last old.from l follows old.alike.start old.alike.end g.idle only start first.from size.count size.bytes more.count more.bytes before c d in
+      let passed = passed-next tree s g.last old.from l follows old.alike.from old.alike.to g.idle only start first.from size.count size.bytes more.count more.bytes before c d in
       record {
         same = record { functions-is = f.same.functions-is ∙ p.same.functions-is; lines-is = f.same.lines-is ∙ p.same.lines-is };
         lines = subst (λ t. Passed tree s start first.from more.count more.bytes t new.from) (sym own)

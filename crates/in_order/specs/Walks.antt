@@ -58,8 +58,13 @@ pub record Moved (old : Walk) (found : Found) (new : Walk) : Type 0 where
 pub record Follows_on (w : Walk) (l : Bounds) : Type 0 where
   pub last : Key
   pub last-is : w.last ≡ Some last
-  pub idle : w.alike.end ≤ w.alike.start
+  pub idle : w.alike.to ≤ w.alike.from
   pub follows : Follows w.lines.now last w.from l
+
+-- a line that adds its key without being looked up, if one was read
+abbrev pub ReadNext : Walk → Option Bounds → Type 0
+ReadNext w (Some l) = Follows_on w l
+ReadNext w None = Unit {0}
 
 -- it went past that line
 pub record Followed (old : Walk) (l : Bounds) (new : Walk) : Type 0 where

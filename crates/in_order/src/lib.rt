@@ -8,7 +8,7 @@ ghost use Rattle.text_rules.specs.Utf8.{is_utf8};
 ghost use Rattle.prefix.specs.Common.{common};
 ghost use Rattle.baseline.specs.Ordered.{Unfalling, keys_in};
 ghost use Rattle.listing.specs.Writes.{Room, Writes};
-ghost use Rattle.key_lines.specs.Next.{Behind, ReadNext};
+ghost use Rattle.key_lines.specs.Next.{Behind, ReadOn};
 ghost use Rattle.listed_keys.specs.KeyLines.{Sizes, key_lines};
 ghost use Rattle.in_order.specs.StaleKeys.{stale_in};
 ghost use Rattle.in_order.specs.Known.{order_by};
@@ -40,7 +40,7 @@ fn is_behind(lines: &[u8], key: &[u8], from: usize, shared: usize) -> bool
 
 // The line at a place, where it and a key are plain, and it has the path of the key and a key behind that one.
 fn next_line(lines: &[u8], key: Key, from: usize) -> Option<Bounds>
-    ensures { ReadNext lines.now key.entry from result }
+    ensures { ReadOn lines.now key.entry from result }
 {
     if !key.plain {
         return None;

@@ -10,7 +10,7 @@ use baseline::Bounds;
 use functions::Functions;
 use key_lines::{Found, Key};
 use listing::Size;
-use std::ops::Range;
+use live::Numbers;
 
 const HASH: u8 = b'#';
 
@@ -59,19 +59,19 @@ impl Step<'_> {
 }
 
 // The lines of a baseline from a place on, the last key in front of it, and the functions that may have a key with its path.
-#[derive(Drop)]
+#[derive(Clone, Copy)]
 pub struct Walk<'a> {
     pub functions: Functions<'a>,
     pub lines: &'a [u8],
     pub from: usize,
     pub last: Option<Key<'a>>,
-    pub alike: Range<usize>,
-    pub ghost few: { alike.end ≤ functions.count },
-    pub ghost ranged: { Ranged (functions_of gate functions.tree.now) last alike.start alike.end },
+    pub alike: Numbers,
+    pub ghost few: { alike.to ≤ functions.count },
+    pub ghost ranged: { Ranged (functions_of gate functions.tree.now) last alike.from alike.to },
 }
 
 impl<'a> Walk<'a> {
-    ghost use Rattle.std.specs.Prelude.{◌≡◌, ◌||◌, map, IfSome, Some};
+    ghost use Rattle.std.specs.Prelude.{◌≡◌, ◌||◌, map, Some};
     ghost use Rattle.text_rules.specs.Bytes.{among};
     ghost use Rattle.gate_rules.specs.Functions.{key as fun_key};
     ghost use Rattle.baseline.specs.Ordered.{one_key};
@@ -79,7 +79,7 @@ impl<'a> Walk<'a> {
     ghost use Rattle.key_lines.specs.Keys.{repeats, text_of};
     ghost use Rattle.in_order.specs.InOrder.{added_by};
     ghost use Rattle.in_order.specs.Runs.{Passes};
-    ghost use Rattle.in_order.specs.Walks.{Followed, Follows_on, Moved, Starts, latest};
+    ghost use Rattle.in_order.specs.Walks.{Followed, Follows_on, Moved, ReadNext, Starts, latest};
 
     // At the first line.
     pub fn new(functions: Functions<'a>, lines: &'a [u8]) -> Walk<'a>
@@ -90,18 +90,18 @@ impl<'a> Walk<'a> {
             lines,
             from: 0,
             last: None,
-            alike: 0..0,
+            alike: Numbers { from: 0, to: 0 },
         }
     }
 
     // The functions that may have a key with the path of one that is found: those of the last key, where it has that path.
-    fn alike(&self, found: Found<'a>, key: Key<'a>) -> Range<usize>
+    fn alike(&self, found: Found<'a>, key: Key<'a>) -> Numbers
         requires { (found.last ≡ self.now.last) × (found.key ≡ Some key) }
-        ensures few { result.end ≤ self.now.functions.count }
-        ensures ranged { Ranged (functions_of gate self.now.functions.tree.now) (Some key.entry) result.start result.end }
+        ensures few { result.to ≤ self.now.functions.count }
+        ensures ranged { Ranged (functions_of gate self.now.functions.tree.now) (Some key.entry) result.from result.to }
     {
         match self.last {
-            Some(last) if last.path < found.common => self.alike.start..self.alike.end,
+            Some(last) if last.path < found.common => self.alike,
             _ => live::range(self.functions, key.bytes),
         }
     }
@@ -127,7 +127,7 @@ impl<'a> Walk<'a> {
         if found.repeats() {
             return true;
         }
-        live::any_has(self.functions, self.alike.start..self.alike.end, key.bytes)
+        live::any_has(self.functions, self.alike, key.bytes)
     }
 
     // The key that a line adds. The walk stands behind the line.
@@ -146,10 +146,10 @@ impl<'a> Walk<'a> {
     // The line where the walk stands, if it is plain, no function has the path of the last key, and the line has that path and a key behind the last
     // one.
     fn following(&self) -> Option<Bounds>
-        ensures { IfSome result (λ l. Follows_on self.now l) }
+        ensures { ReadNext self.now result }
     {
         let key = self.last?;
-        if self.alike.start < self.alike.end {
+        if self.alike.from < self.alike.to {
             return None;
         }
         next_line(self.lines, key, self.from)
@@ -168,15 +168,18 @@ impl<'a> Walk<'a> {
     pub fn run(&mut self) -> Size
         ensures { Passes self.old result self.new }
     {
+        // The lines are passed by a copy of the walk, since the compiler keeps what `self` points to in memory.
+        let mut walk = *self;
         let mut size = Size::default();
         // Kept: a line is read against the key of the line before it, which an iterator over lines does not know.
-        while let Some(line) = self.following() {
+        while let Some(line) = walk.following() {
             size = size.plus(Size {
                 count: 1,
-                bytes: 3 + (line.name - self.from),
+                bytes: 3 + (line.name - walk.from),
             });
-            self.follow(line);
+            walk.follow(line);
         }
+        *self = walk;
         size
     }
 }

@@ -1,4 +1,4 @@
--- A line that adds its key without being looked up: plain, with the path of the last key, which no function has, and a key behind it.
+-- A line that goes on behind a plain key: plain, with the path of that key, and a key behind it. Whether a function has that path is not told here.
 use Rattle.std.specs.Prelude.{ℕ, Option, Some, None, ◌+◌, ◌<◌, ◌≡◌, ◌≢◌, true, List, length, get_or}
 use Rattle.text_rules.specs.Classes.{tab}
 use Rattle.text_rules.specs.Search.{part}
@@ -23,11 +23,12 @@ pub record Follows (s : List ℕ) (key : Key) (from : ℕ) (l : Bounds) : Type 0
   pub same-path : key.path < shared
   pub behind : Behind s key.bytes.now from shared
 
-abbrev pub ReadNext : List ℕ → Key → (from : ℕ) → Option Bounds → Type 0
-ReadNext s key from (Some l) = Follows s key from l
-ReadNext s key from None = Unit {0}
+-- the line that was read, if one was
+abbrev pub ReadOn : List ℕ → Key → (from : ℕ) → Option Bounds → Type 0
+ReadOn s key from (Some l) = Follows s key from l
+ReadOn s key from None = Unit {0}
 
 pub next-read : (s : List ℕ) (key : Key) (from c : ℕ) (r : Option Bounds) → ReadPlain s from r → key.plain ≡ true → c ≡ common key.bytes.now (part from (length s) s)
-    → key.path < c → Behind s key.bytes.now from c → ReadNext s key from r
+    → key.path < c → Behind s key.bytes.now from c → ReadOn s key from r
 next-read s key from c (Some l) p f e h b = record { line = p; plain = f; shared = c; shared-is = e; same-path = h; behind = b }
 next-read s key from c None p f e h b = tt

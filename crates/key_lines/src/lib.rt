@@ -22,7 +22,7 @@ pub use found::Found;
 pub use key::Key;
 
 // How many bytes a text has in common with the last key.
-fn common_with(last: Option<Key>, text: &[u8]) -> usize
+pub fn common_with(last: Option<Key>, text: &[u8]) -> usize
     ensures { result ≡ common_with (text_of last.entry) text.now }
 {
     last.map_or(0, |l| prefix::common(l.bytes, text))

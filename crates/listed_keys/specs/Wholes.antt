@@ -79,25 +79,17 @@ module _ (s : List ℕ) (from : ℕ) (h : from ≤ length s) (k : second_tab s f
       ap (λ l. 32 ∷ 32 ∷ l)
       (sym (ap (λ x. x ++ 10 ∷ []) spaced-key ∙ append_assoc (first_field (drop from s)) (32 ∷ first_field (drop (tab_from s from + 1) s)) (10 ∷ [])))
 
-  -- the parts that are written, by the ends of both fields
-  pub key-parts : (path name : ℕ) → path ≡ tab_from s from → name ≡ path + 1 + bytes_before tab (drop (path + 1) s)
-      → ascii "  " ++ (part from path s ++ (ascii " " ++ (part (path + 1) name s ++ ascii "\n"))) ≡ key_lines (part from (second_tab s from) s ∷ [])
-  key-parts path name e f =
-      let first : part from path s ≡ first_field (drop from s) = ap (λ n. take n (drop from s)) (omega (arith, e)) in
-      let place : path + 1 ≡ tab_from s from + 1 = omega (arith, e) in
-      let second : part (path + 1) name s ≡ first_field (drop (tab_from s from + 1) s) =
-      ap (λ n. take n (drop (path + 1) s)) (omega (arith, f)) ∙ ap (λ (i : ℕ). first_field (drop i s)) place in
-      ap₂ (λ (x y : List ℕ). ascii "  " ++ (x ++ (ascii " " ++ (y ++ ascii "\n")))) first second
-      ∙ key-line
-
-  pub parts_size : (path name : ℕ) → path ≡ tab_from s from → name ≡ path + 1 + bytes_before tab (drop (path + 1) s)
-      → 2 + length (part from path s) + 1 + length (part (path + 1) name s) + 1 ≡ length (key_lines (part from (second_tab s from) s ∷ []))
-  parts_size path name e f =
+  pub line-size : 2 + bytes_before tab (drop from s) + 1 + bytes_before tab (drop (tab_from s from + 1) s) + 1 ≡ length (key_lines (part from (second_tab s from) s ∷ []))
+  line-size =
+      let path = first_field (drop from s) in
+      let name = first_field (drop (tab_from s from + 1) s) in
       omega (
         arith,
-        ap length (key-parts path name e f),
-        length-append (part from path s) (ascii " " ++ (part (path + 1) name s ++ ascii "\n")),
-        length-append (part (path + 1) name s) (ascii "\n"),
+        ap length key-line,
+        length-append path (ascii " " ++ (name ++ ascii "\n")),
+        length-append name (ascii "\n"),
+        field_length (drop from s),
+        field_length (drop (tab_from s from + 1) s),
       )
 
 -- ---- a plain line

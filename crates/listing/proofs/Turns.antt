@@ -29,12 +29,19 @@ module _ (at i : ℕ) (out whole : List ℕ) (inside : at + i < length out) wher
       let place : at + (i + 1) ≡ at + i + 1 = omega arith in
       ap (λ n. put_at n rest (set out (at + i) b)) place ∙ put_first (at + i) b rest out inside ∙ ap (λ l. put_at (at + i) l out) (sym e) ∙ h
 
+  pub text-turn : (text : List ℕ) (b : ℕ) → i < length text → b ≡ get_or text i 0
+      → put_at (at + i) (drop i text) out ≡ whole → put_at (at + (i + 1)) (drop (i + 1) text) (set out (at + i) b) ≡ whole
+  text-turn text b h e = turn b (drop (i + 1) text) (drop i text) (split text i h ∙ ap (λ n. n ∷ drop (i + 1) text) (sym e))
+
   pub spaced-turn : (key : List ℕ) (b : ℕ) → i < length key → b ≡ (if eqb (get_or key i 0) tab then space otherwise get_or key i 0)
       → put_at (at + i) (spaced (drop i key)) out ≡ whole → put_at (at + (i + 1)) (spaced (drop (i + 1) key)) (set out (at + i) b) ≡ whole
   unfolding spaced
   spaced-turn key b h e = turn b (spaced (drop (i + 1) key)) (spaced (drop i key)) (ap spaced (split key i h) ∙ ap (λ n. n ∷ spaced (drop (i + 1) key)) (sym e))
 
 module _ (at i : ℕ) (out whole : List ℕ) where
+  pub text-end : (text : List ℕ) → length text ≤ i → put_at (at + i) (drop i text) out ≡ whole → out ≡ whole
+  text-end text h e = sym (put-none (at + i) out) ∙ ap (λ l. put_at (at + i) l out) (sym (drop_of_length-le text h)) ∙ e
+
   pub spaced-end : (key : List ℕ) → length key ≤ i → put_at (at + i) (spaced (drop i key)) out ≡ whole → out ≡ whole
   unfolding spaced
   spaced-end key h e = sym (put-none (at + i) out) ∙ ap (λ l. put_at (at + i) (spaced l) out) (sym (drop_of_length-le key h)) ∙ e

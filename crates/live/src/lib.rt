@@ -13,7 +13,6 @@ ghost use Rattle.live.specs.Live.{NoneHas, Only, path_of};
 use baseline::FunctionKey;
 use functions::{Function, Functions};
 use halving::boundary;
-use std::ops::Range;
 
 // The function's key.
 pub fn function_key(f: Function<'_>) -> FunctionKey<'_>
@@ -32,13 +31,20 @@ pub fn has_key(f: Function, bytes: &[u8]) -> bool
     function_key(f).is(bytes)
 }
 
+// Functions by their numbers: from one up to another.
+#[derive(Clone, Copy)]
+pub struct Numbers {
+    pub from: usize,
+    pub to: usize,
+}
+
 // Whether one of the functions with these numbers has the key.
-pub fn any_has(fs: Functions, numbers: Range<usize>, bytes: &[u8]) -> bool
-    requires { numbers.end ≤ fs.count }
+pub fn any_has(fs: Functions, numbers: Numbers, bytes: &[u8]) -> bool
+    requires { numbers.to ≤ fs.count }
     ensures live { result ≡ true → among bytes.now (map key (functions_of gate fs.entry.tree.now)) ≡ true }
-    ensures dead { result ≡ false → NoneHas bytes.now (functions_of gate fs.entry.tree.now) numbers.start numbers.end }
+    ensures dead { result ≡ false → NoneHas bytes.now (functions_of gate fs.entry.tree.now) numbers.from numbers.to }
 {
-    for k in numbers.start..numbers.end {
+    for k in numbers.from..numbers.to {
         if has_key(fs.get(k), bytes) {
             return true;
         }
@@ -47,14 +53,14 @@ pub fn any_has(fs: Functions, numbers: Range<usize>, bytes: &[u8]) -> bool
 }
 
 // The functions that may have the key, or another with its path: those with the path that stands before its first tab.
-pub fn range(fs: Functions, bytes: &[u8]) -> Range<usize>
-    ensures inside { result.end ≤ fs.entry.count }
-    ensures others { (k : List ℕ) → path_of k ≡ path_of bytes.now → Only k (functions_of gate fs.entry.tree.now) result.start result.end }
+pub fn range(fs: Functions, bytes: &[u8]) -> Numbers
+    ensures inside { result.to ≤ fs.entry.count }
+    ensures others { (k : List ℕ) → path_of k ≡ path_of bytes.now → Only k (functions_of gate fs.entry.tree.now) result.from result.to }
 {
     let path = &bytes[..baseline::field_end(bytes, 0)];
     let from = boundary(fs.count, |k| paths::path_before(fs.get(k).path, path));
     let to = boundary(fs.count, |k| !paths::path_before(path, fs.get(k).path));
-    from..to
+    Numbers { from, to }
 }
 
 // Whether a function of the tree has the key.

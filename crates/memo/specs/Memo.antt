@@ -1,10 +1,10 @@
 -- Searches for a body that are kept by what they have counted at one place, with what they find.
-use Rattle.std.specs.Prelude.{ℕ, ◌+◌, ◌-◌, ◌≤◌, ◌≡◌, List, Option as Possible, Some, None, MatchOption, length, drop, set, replicate}
+use Rattle.std.specs.Prelude.{ℕ, ◌+◌, ◌-◌, ◌≤◌, ◌<◌, ◌≡◌, ◌≢◌, ◌⊎◌, Bool, true, false, List, eqb, get_or, Option as Possible, Some, None, MatchOption, length, take, drop, set, min, max}
 use Rattle.std.specs.List.{All}
-use Rattle.std.proofs.Common.{ap, subst, sym, ◌∙◌, arith}
+use Rattle.std.proofs.Common.{ap, subst, sym, refl, inl, inr, ◌∙◌, arith, eqb-true, get_or-set_other, get_or-set_same, length-set}
 use Rattle.std.proofs.Math.Option.{Option, none, some}
-use Rattle.std.proofs.lemmas.List.{get_or-replicate, length-replicate}
-use Rattle.std.proofs.lemmas.List.Elements.{All-set}
+use Rattle.std.proofs.lemmas.Bool.{eqb-false}
+use Rattle.std.proofs.lemmas.List.{get_or-take, length-take}
 use Rattle.text_rules.specs.Classes.{square_close, square_open}
 use Rattle.source_rules.specs.Finding.{body_at}
 use Rattle.blocks.specs.Blocks.{count_most}
@@ -46,42 +46,69 @@ pub record Holds (s : List ℕ) (at : ℕ) (x : Search) : Type 0 where
 abbrev pub Entry : List ℕ → (at : ℕ) → Possible Search → Type 0
 Entry s at x = MatchOption x (Unit {0}) (Holds s at)
 
+-- the searches that are kept: those at the first indices
+abbrev pub searches_of : Kept → List (Possible Search)
+searches_of f = take (min f.used 64) f.searches
+
 -- each search that is kept finds what is kept of it
 pub record Recalls (s : List ℕ) (f : Kept) : Type 0 where
   pub inside : f.at ≤ length s
-  pub each : All (Entry s f.at) f.searches
+  pub each : All (Entry s f.at) (searches_of f)
 
 -- no search is kept
 pub record Forgotten (at : ℕ) (f : Kept) : Type 0 where
   pub place : f.at ≡ at
-  pub nothing : All (λ x. x ≡ None) f.searches
+  pub nothing : All (λ x. x ≡ None) (searches_of f)
 
 pub recalls_nothing : (s : List ℕ) (f : Kept) (at : ℕ) → at ≤ length s → Forgotten at f → Recalls s f
 recalls_nothing s f at l e = record { inside = omega (arith, l, e.place); each = λ k d m. subst (Entry s f.at) (sym (e.nothing k d m)) tt }
 
--- where each is none, none is kept
-pub all_nothing : (n : ℕ) → All {X = Possible Search} (λ x. x ≡ None) (replicate n None)
-all_nothing n k d m = get_or-replicate n k None d (omega (arith, m, length-replicate {A = Possible Search} n None))
+-- what a search has counted is at most so much
+abbrev pub EntryCounted : (most : ℕ) → Possible Search → Type 0
+EntryCounted most x = MatchOption x (Unit {0}) (λ y. Counted y.counts most)
 
--- what they have counted can be counted on
-abbrev pub AllCounted : Kept → Type 0
-AllCounted f = All (λ x. MatchOption x (Unit {0}) (λ y. Counted y.counts 9223372036854775807)) f.searches
+abbrev pub AllCounted : (most : ℕ) → Kept → Type 0
+AllCounted most f = All (EntryCounted most) (searches_of f)
 
-entry_counted : (s : List ℕ) (at : ℕ) (x : Possible Search) → at ≤ 9223372036854775807 → Entry s at x → MatchOption x (Unit {0}) (λ y. Counted y.counts 9223372036854775807)
-entry_counted s at None l e = tt
-entry_counted s at (Some x) l e = counted_further x.counts at 9223372036854775807 l e.counted
+entry_counted : (s : List ℕ) (at most : ℕ) (x : Possible Search) → at ≤ most → Entry s at x → EntryCounted most x
+entry_counted s at most None l e = tt
+entry_counted s at most (Some x) l e = counted_further x.counts at most l e.counted
 
-pub all_counted : (s : List ℕ) (f : Kept) → length s ≤ 9223372036854775807 → Recalls s f → AllCounted f
-all_counted s f l r k d m = entry_counted s f.at _ (omega (arith, l, r.inside)) (r.each k d m)
+-- what they have counted is at most the length of the text
+pub all_counted : (s : List ℕ) (f : Kept) (most : ℕ) → Recalls s f → length s ≤ most → AllCounted most f
+all_counted s f most r l k d m = entry_counted s f.at most _ (omega (arith, l, r.inside)) (r.each k d m)
 
 -- one more search is kept: what the searches tell stays true
 abbrev pub Keeps : Counts → (found : Possible ℕ) → (f g : Kept) → Type 0
 Keeps n found f g = (s : List ℕ) → Recalls s f → Holds s f.at (record { counts = n; found = found }) → Recalls s g
 
--- it is put at an index
-pub keeps-there : (s : List ℕ) (f : Kept) (i turn end : ℕ) (x : Search) → Recalls s f → Holds s f.at x
-    → Recalls s (record { at = f.at; turn = turn; end = end; searches = set f.searches i (Some x) })
-keeps-there s f i turn end x r h = record { inside = r.inside; each = All-set (Entry s f.at) f.searches i (Some x) h r.each }
+whether : (b : Bool) → (b ≡ true) ⊎ (b ≡ false)
+whether true = inl refl
+whether false = inr refl
+
+-- one is put at an index, and no other index is used that was not
+all_put : (P : Possible Search → Type 0) (n m i : ℕ) (xs : List (Possible Search)) (y : Possible Search) → ((k : ℕ) → k < m → k ≢ i → k < n) → P y → All P (take n xs)
+    → All P (take m (set xs i y))
+all_put P n m i xs y other p a k d l =
+    let in_take : k < m = omega (arith, l, length-take m (set xs i y)) in
+    let inside : k < length xs = omega (arith, l, length-take m (set xs i y), length-set xs i y) in
+    subst P (sym (get_or-take m (set xs i y) k d in_take)) (elim (whether (eqb k i)) [
+      | inl t ↦
+          let e = eqb-true k i t in
+          subst (λ j. P (get_or (set xs i y) j d)) (sym e) (subst P (sym (get_or-set_same xs i y d (omega (arith, inside, e)))) p)
+      | inr t ↦
+          let e = eqb-false k i t in
+          let was : k < n = other k in_take e in
+          subst P (sym (get_or-set_other xs i k y d e))
+          (subst P (get_or-take n xs k d was) (a k d (omega (arith, was, inside, length-take n xs))))
+    ])
+
+-- it is put at an index, of which those before are used
+pub keeps-there : (s : List ℕ) (f g : Kept) (i : ℕ) (x : Search) → i ≤ f.used → g.at ≡ f.at → g.used ≡ max f.used (i + 1) → g.searches ≡ set f.searches i (Some x)
+    → Recalls s f → Holds s f.at x → Recalls s g
+keeps-there s f g i x l e u w r h =
+    let put = all_put (Entry s f.at) (min f.used 64) (min g.used 64) i f.searches (Some x) (λ k a b. omega (arith, a, b, l, u)) h r.each in
+    record { inside = omega (arith, e, r.inside); each = subst (λ j. All (Entry s j) (searches_of g)) (sym e) (subst (λ xs. All (Entry s f.at) (take (min g.used 64) xs)) (sym w) put) }
 
 -- a search with the same depths finds the same
 pub same_finds : (s : List ℕ) (at : ℕ) (x : Search) (n : Counts) → Holds s at x → x.counts.angle ≡ n.angle → x.counts.opened + n.closed ≡ n.opened + x.counts.closed

@@ -1,7 +1,7 @@
 -- The searches that are kept come to another place, one by one.
 use Rattle.std.specs.Prelude.{ℕ, ◌+◌, ◌≤◌, ◌<◌, ◌≡◌, ◌≢◌, List, Option as Possible, Some, length, set}
 use Rattle.std.specs.List.{All, AllWithin}
-use Rattle.std.proofs.Common.{subst, sym, ◌∙◌, arith, length-set, get_or-set_other}
+use Rattle.std.proofs.Common.{subst, sym, arith, length-set, get_or-set_other}
 use Rattle.std.proofs.lemmas.List.Elements.{AllWithin-more_set, AllWithin-none}
 use Rattle.flat.specs.Body.{Counted, body_from}
 use Rattle.flat.specs.declared.Counts.{Counts}
@@ -15,23 +15,21 @@ goes_on s from to x n h same c = record { counted = c; finds = subst (Known (Som
 
 -- the searches before an index have come to the place, the others not yet
 pub record Between (s : List ℕ) (from to i : ℕ) (xs : List (Possible Search)) : Type 0 where
-  pub room : length xs ≡ 64
   pub there : AllWithin (Entry s to) xs 0 i
-  pub here : AllWithin (Entry s from) xs i 64
+  pub here : AllWithin (Entry s from) xs i (length xs)
 
-pub none_yet : (s : List ℕ) (from to : ℕ) (xs : List (Possible Search)) → length xs ≡ 64 → All (Entry s from) xs → Between s from to 0 xs
-none_yet s from to xs l h = record { room = l; there = AllWithin-none (Entry s to) xs 0; here = λ k d a b. h k d (omega (arith, b, l)) }
+pub none_yet : (s : List ℕ) (from to : ℕ) (xs : List (Possible Search)) → All (Entry s from) xs → Between s from to 0 xs
+none_yet s from to xs h = record { there = AllWithin-none (Entry s to) xs 0; here = λ k d a b. h k d b }
 
-pub one_more : (s : List ℕ) (from to i : ℕ) (xs : List (Possible Search)) (y : Possible Search) → i < 64 → Entry s to y → Between s from to i xs
+pub one_more : (s : List ℕ) (from to i : ℕ) (xs : List (Possible Search)) (y : Possible Search) → i < length xs → Entry s to y → Between s from to i xs
     → Between s from to (i + 1) (set xs i y)
 one_more s from to i xs y l e b =
     record {
-      room = length-set xs i y ∙ b.room;
-      there = AllWithin-more_set xs i y (omega (arith, l, b.room)) (Entry s to) b.there e;
+      there = AllWithin-more_set xs i y l (Entry s to) b.there e;
       here = λ k d h m.
           let other : k ≢ i = λ z. omega (arith, z, h) in
-          subst (Entry s from) (sym (get_or-set_other xs i k y d other)) (b.here k d (omega (arith, h)) m);
+          subst (Entry s from) (sym (get_or-set_other xs i k y d other)) (b.here k d (omega (arith, h)) (omega (arith, m, length-set xs i y)));
     }
 
-pub all_there : (s : List ℕ) (from to i : ℕ) (xs : List (Possible Search)) → 64 ≤ i → Between s from to i xs → All (Entry s to) xs
-all_there s from to i xs l b k d m = b.there k d (omega arith) (omega (arith, l, m, b.room))
+pub all_there : (s : List ℕ) (from to i : ℕ) (xs : List (Possible Search)) → length xs ≤ i → Between s from to i xs → All (Entry s to) xs
+all_there s from to i xs l b k d m = b.there k d (omega arith) (omega (arith, l, m))

@@ -111,11 +111,13 @@ impl Search {
 }
 
 // The searches that are kept, by what they have counted at the place `at`. One of them goes as far as `end`. `turn` tells which is given up next.
-#[derive(Drop)]
+// They stand at the first `used` indices. What stands behind those means nothing, so that all of them are forgotten by setting one number.
+#[derive(Clone, Copy)]
 pub struct Kept {
     at: usize,
     turn: usize,
     end: usize,
+    used: usize,
     searches: [Option<Search>; MOST],
 }
 
@@ -128,6 +130,7 @@ impl Kept {
             at: 0,
             turn: 0,
             end: 0,
+            used: 0,
             searches: [None; MOST],
         }
     }
@@ -138,7 +141,7 @@ impl Kept {
     {
         self.at = at;
         self.end = at;
-        self.searches.fill(None);
+        self.used = 0;
     }
 
     // All searches come to a place that is at most a chunk further on. Those that end before it are given up.
@@ -152,7 +155,7 @@ impl Kept {
     {
         let from = self.at;
         let c = chunks::body_sum(text.text, from, to);
-        for search in &mut self.searches {
+        for search in &mut self.searches[..self.used.min(MOST)] {
             if let Some(x) = *search {
                 *search = x.moved(text, from, to, c);
             }
@@ -176,10 +179,10 @@ impl Kept {
     // What a search finds that is kept with the same depths.
     #[tactic(auto, using(crate::specs::Memo::same_finds))]
     fn find(&self, n: Counts) -> Option<Option<usize>>
-        requires { Counted n 9223372036854775807 × AllCounted self.now }
+        requires { Counted n 9223372036854775807 × AllCounted 9223372036854775807 self.now }
         ensures { (s : List ℕ) → Recalls s self.now → Known result (body_from s self.now.at n) }
     {
-        for search in &self.searches {
+        for search in &self.searches[..self.used.min(MOST)] {
             if let Some(x) = *search {
                 if is_same(x.counts, n) {
                     return Some(x.found);
@@ -208,14 +211,24 @@ impl Kept {
         self.find(n)
     }
 
+    // The index that is taken where each of the first `used` keeps a search: the next one, or else the one behind the last that was taken.
+    fn next_index(&self) -> usize
+        ensures { (result < 64) × (result ≤ self.now.used) }
+    {
+        if self.used < MOST {
+            return self.used;
+        }
+        self.turn % MOST
+    }
+
     // Where the next search is kept: at an index that keeps none, or else behind the last one that was taken.
     fn free_index(&self) -> usize
-        ensures { result < 64 }
+        ensures { (result < 64) × (result ≤ self.now.used) }
     {
-        self.searches
+        self.searches[..self.used.min(MOST)]
             .iter()
             .position(|search| search.is_none())
-            .unwrap_or(self.turn % MOST)
+            .unwrap_or(self.next_index())
     }
 
     // A search is kept with what it finds, in place of another where all indices keep one. It goes as far as `end`, which
@@ -226,6 +239,7 @@ impl Kept {
         let i = self.free_index();
         self.turn = i + 1;
         self.end = self.end.max(end);
+        self.used = self.used.max(i + 1);
         self.searches[i] = Some(Search { counts: n, found });
     }
 

@@ -18,7 +18,7 @@ fn mark(fs: Functions, bytes: &[u8], place: u32, places: &mut [u32; 8192])
     ensures { Marks (some bytes.now) place (functions_of gate fs.entry.tree.now) places.old places.new }
 {
     let numbers = live::range(fs, bytes);
-    for k in numbers.start..numbers.end {
+    for k in numbers.from..numbers.to {
         if live::has_key(fs.get(k), bytes) {
             places[k] = place;
         }

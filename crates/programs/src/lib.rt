@@ -21,6 +21,9 @@ use std::{fs, io};
 // The baseline's file.
 const BASELINE: &str = "tools/complexity-baseline.tsv";
 
+// What is said where it cannot be written.
+const UNWRITTEN: &str = "could not write tools/complexity-baseline.tsv";
+
 // How many names are tried for the new file beside it.
 const NAMES: u32 = 1000000;
 
@@ -121,30 +124,31 @@ fn create_beside<R: Files>(rt: &R) -> io::Result<(R::File, Words)> {
     Err(io::Error::from(ErrorKind::AlreadyExists))
 }
 
-// Writes a new file that others may read too, waits until its bytes have reached the device, and closes it.
-fn fill<F: Write + OpenFile + Drop>(mut file: F, bytes: &[u8]) -> io::Result<()> {
+// Writes an open file that others may read too, and waits until its bytes have reached the device.
+fn put_bytes<F: Write + OpenFile>(file: &mut F, bytes: &[u8]) -> io::Result<()> {
     file.write_all(bytes)?;
     file.set_permissions(Permissions::from_mode(0o644))?;
     file.sync_all()
 }
 
-// A new file beside the baseline's takes its name once it is whole, so that the old one stands until then. Where this fails the new file is removed.
-fn replace<R: Files>(rt: &R, bytes: &[u8]) -> io::Result<()> {
-    let (file, name) = create_beside(rt)?;
-    let replaced = fill(file, bytes).and_then(|()| fs::rename(rt, name.as_str(), BASELINE));
-    if replaced.is_err() {
+// Writes the new file and closes it. Where this fails it says why, before the file is closed.
+fn fill<F: Write + OpenFile + Drop>(rt: &impl Eprint, mut file: F, bytes: &[u8]) -> Option<()> {
+    said(rt, UNWRITTEN, put_bytes(&mut file, bytes))
+}
+
+// Writes the baseline's file: a new file beside it takes its name once it is whole, so that the old one stands until then. Where this fails it says
+// why, then removes the new file, and answers none.
+pub fn write_baseline<R: Files + Eprint>(rt: &R, bytes: &[u8]) -> Option<()> {
+    let (file, name) = said(rt, UNWRITTEN, create_beside(rt))?;
+    let replaced = fill(rt, file, bytes).and_then(|()| said(
+        rt,
+        UNWRITTEN,
+        fs::rename(rt, name.as_str(), BASELINE),
+    ));
+    if replaced.is_none() {
         let _ = fs::remove_file(rt, name.as_str());
     }
     replaced
-}
-
-// Writes the baseline's file. Where this fails it says why, and answers none.
-pub fn write_baseline<R: Files + Eprint>(rt: &R, bytes: &[u8]) -> Option<()> {
-    said(
-        rt,
-        "could not write tools/complexity-baseline.tsv",
-        replace(rt, bytes),
-    )
 }
 
 // Prints. Where this fails it says why.

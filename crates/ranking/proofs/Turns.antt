@@ -1,21 +1,22 @@
 -- One function after another is taken: the node 1 holds the next one, and with its leaf emptied and its path played the tournament holds the others.
 use Rattle.std.specs.Prelude.{ℕ, ◌+◌, ◌*◌, ◌/◌, ◌≤◌, ◌<◌, ◌≡◌, ◌≢◌, List, [], ◌∷◌, length, get_or, refl}
-use Rattle.std.proofs.Common.{Bool, inl, inr, ap, subst, arith, set}
+use Rattle.std.proofs.Common.{Bool, true, inl, inr, ap, subst, sym, ◌∙◌, arith, set}
 use Rattle.text_rules.specs.ByteOrder.{Orders}
 use Rattle.text_rules.specs.Bytes.{kept}
 use Rattle.text_rules.specs.BytesLaws.{kept-total, total-same}
 use Rattle.text_rules.specs.Order.{sort}
-use Rattle.text_rules.specs.Selection.{placed_from}
+use Rattle.text_rules.specs.Selection.{ahead, placed_from}
 use Rattle.text_rules.proofs.OrderLaws.{sort-total}
 use Rattle.gate_rules.specs.Functions.{Fun, over}
 use Rattle.gate_rules.specs.Functions as rules
 use Rattle.gate_rules.specs.Gate.{gate}
 use Rattle.gate_rules.specs.Scan.{functions_of}
-use Rattle.order.specs.Chosen.{Chosen, left, left-all, left_end, left-next, taken_next, taken_none}
+use Rattle.order.specs.Best.{After, Best}
+use Rattle.order.specs.Chosen.{Chosen, choice, chosen_none, left, left-all, left_end, left-next, taken_next, taken_none}
 use Rattle.order.specs.Tournament.{same_or_not, entered_all, entered_small, leaves-same, path-whole, played_set, played_up, root-chosen, root-taken}
 use Rattle.functions.specs.Shown.{limits_of, no_fun}
-use Rattle.ranking.specs.Ranks.{Entered, PlayedBut, Settled, listed}
-use Rattle.ranking.specs.Taking.{Taking, all_of, to_take}
+use Rattle.ranking.specs.Ranks.{Entered, LastTaken, Next, PlayedBut, Settled, listed, to_take}
+use Rattle.ranking.specs.Taking.{Taking, all_of, standing}
 use Rattle.ranking.specs.declared.Tournament.{Tournament}
 use Rattle.functions.specs.declared.Limits.{Limits}
 use Rattle.ranking.specs.declared.Ranking.TheInside.{Inside}
@@ -71,10 +72,45 @@ module _ {R : Type 0} (less : Fun → Fun → Bool) (orders : Orders less) (r : 
   chosen : 1 ≤ length (all_of r) → Chosen less orders no_fun (all_of r) (over (limits_of r.limits)) t.last (placed_from 0 (all_of r)) first
   chosen some = root-chosen less orders no_fun (all_of r) (over (limits_of r.limits)) t.last r.nodes t.settled t.ranked some
 
-  pub none_left : r.tournament.functions.count ≤ first → to_take less orders r ≡ []
+  -- the last one that was taken is one alone
+  same_last : (last next : ℕ) → LastTaken less orders (standing r) last → Chosen less orders no_fun (all_of r) (over (limits_of r.limits)) t.last (placed_from 0 (all_of r)) next
+      → Chosen less orders no_fun (all_of r) (over (limits_of r.limits)) last (placed_from 0 (all_of r)) next
+  same_last last next k c =
+      subst
+      (λ o. Best (ahead less orders) (λ z. (over (limits_of r.limits) z.what ≡ true) × After (ahead less orders) o z) (placed_from 0 (all_of r)) (choice less orders no_fun (all_of r) next))
+      (t.taken_last ∙ sym k) c
+
+  chosen_end : r.tournament.functions.count ≤ first → Chosen less orders no_fun (all_of r) (over (limits_of r.limits)) t.last (placed_from 0 (all_of r)) (length (all_of r))
+  unfolding placed_from
+  chosen_end h =
+      let test = over (limits_of r.limits) in
+      elim (same_or_not (length (all_of r)) 0) [
+        | inl e ↦
+            subst (λ fs. Chosen less orders no_fun fs test t.last (placed_from 0 fs) (length fs)) (sym (empty (all_of r) e))
+            (chosen_none less orders no_fun [] test t.last 0 refl)
+        | inr e ↦
+            let n = r.tournament.functions.all in
+            let some : 1 ≤ length (all_of r) = omega (arith, e) in
+            let small = t.settled.small 1 (omega arith) (omega arith) in
+            let same : first ≡ length (all_of r) = omega arith in
+            subst (Chosen less orders no_fun (all_of r) test t.last (placed_from 0 (all_of r))) same (chosen some)
+      ]
+
+  -- no number is left
+  pub number_none : r.tournament.functions.count ≤ first → Next less orders (standing r) (length (all_of r)) (standing r)
+  number_none h =
+      record {
+        within = omega arith;
+        all-is = refl;
+        limits-is = refl;
+        chosen = λ last k. same_last last (length (all_of r)) k (chosen_end h);
+        ranked = λ n. absurd (n refl);
+      }
+
+  pub none_left : r.tournament.functions.count ≤ first → to_take less orders (standing r) ≡ []
   none_left h =
       elim (same_or_not (length (all_of r)) 0) [
-        | inl e ↦ empty (to_take less orders r) (let few = t.few in omega arith)
+        | inl e ↦ empty (to_take less orders (standing r)) (let few = t.few in omega arith)
         | inr e ↦
             let n = r.tournament.functions.all in
             let some : 1 ≤ length (all_of r) = omega (arith, e) in
@@ -98,7 +134,7 @@ module _ {R : Type 0} (less : Fun → Fun → Bool) (orders : Orders less) (r : 
         (played_set less orders no_fun (all_of r) leaf r.tournament.functions.count r.nodes (omega arith) (omega arith) (omega arith) (λ l. absurd (omega arith)))
         (path-whole less orders no_fun (all_of r) leaf r.nodes t.settled)
 
-    pub take_next : to_take less orders r ≡ get_or (all_of r) first no_fun ∷ left less orders no_fun (all_of r) (over (limits_of r.limits)) (r.taken + 1)
+    pub take_next : to_take less orders (standing r) ≡ get_or (all_of r) first no_fun ∷ left less orders no_fun (all_of r) (over (limits_of r.limits)) (r.taken + 1)
     take_next =
         left-next less orders no_fun (all_of r) (over (limits_of r.limits)) r.taken t.last first t.taken_last (chosen some) there
 
@@ -116,4 +152,15 @@ module _ {R : Type 0} (less : Fun → Fun → Bool) (orders : Orders less) (r : 
               root-taken less orders no_fun (all_of r) test t.last r.nodes t.settled t.ranked some there (r.tournament.functions.count + first) r.tournament.functions.count (omega arith) n ns
               (λ j h. same j (omega arith));
           few = omega (arith, t.few, ap length take_next);
+        }
+
+    pub number_next : (ns : List ℕ) → Next less orders (standing r) first (standing record r { nodes = ns; taken = r.taken + 1 })
+    number_next ns =
+        let n = r.tournament.functions.all in
+        record {
+          within = omega arith;
+          all-is = refl;
+          limits-is = refl;
+          chosen = λ last k. same_last last first k (chosen some);
+          ranked = λ q. taken_next less orders no_fun (all_of r) (over (limits_of r.limits)) r.taken t.last first t.taken_last (chosen some) there;
         }

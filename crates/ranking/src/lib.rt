@@ -9,7 +9,7 @@ ghost use Rattle.text_rules.specs.Bytes.{same};
 ghost use Rattle.gate_rules.specs.Gate.{gate};
 ghost use Rattle.gate_rules.specs.Scan.{functions_of};
 ghost use Rattle.functions.specs.Shown.{limits_of, shown};
-ghost use Rattle.ranking.specs.Ranks.{Entered, Played, PlayedBut, Settled, Wins, goes_before, listed};
+ghost use Rattle.ranking.specs.Ranks.{Entered, Next, Played, PlayedBut, Settled, Takes, Wins, at_start, goes_before, listed, number_of, to_take};
 
 use functions::{Function, Functions, Limits};
 use std::marker::Model;
@@ -28,6 +28,11 @@ pub trait Rank {
 
     // f goes before g. Where neither is less, the earlier one does.
     fn first(&self, f: Function, g: Function, earlier: bool) -> bool
+        ensures { result ≡ decided less (shown f.entry) (shown g.entry) earlier };
+
+    // The same for two functions with one path, which needs no look at it.
+    fn first_of_one_path(&self, f: Function, g: Function, earlier: bool) -> bool
+        requires { f.path.now ≡ g.path.now }
         ensures { result ≡ decided less (shown f.entry) (shown g.entry) earlier };
 }
 
@@ -54,6 +59,10 @@ impl Rank for ByKey {
         if !same_path(f, g) {
             return order::before(f.path, g.path);
         }
+        self.first_of_one_path(f, g, earlier)
+    }
+
+    fn first_of_one_path(&self, f: Function, g: Function, earlier: bool) -> bool {
         if !order::same_bytes(f.name, g.name) {
             return order::before(f.name, g.name);
         }
@@ -82,6 +91,13 @@ impl Rank for Worst {
         }
         earlier
     }
+
+    fn first_of_one_path(&self, f: Function, g: Function, earlier: bool) -> bool {
+        if f.cyclomatic == g.cyclomatic {
+            return earlier;
+        }
+        g.cyclomatic < f.cyclomatic
+    }
 }
 
 // A tournament of the functions: who wins its matches.
@@ -99,7 +115,11 @@ impl<'a, R: Rank> Tournament<'a, R> {
     {
         let f = self.functions.get(j);
         let g = self.functions.get(k);
-        self.rank.first(f, g, j < k)
+        let earlier = j < k;
+        if self.functions.in_one_file(j, k) {
+            return self.rank.first_of_one_path(f, g, earlier);
+        }
+        self.rank.first(f, g, earlier)
     }
 
     // The winner of two: who is there, and of two that are there the one that goes first.
@@ -178,7 +198,7 @@ fn set_leaves(functions: Functions, limits: Limits, nodes: &mut [u16; 16384])
     }
 }
 
-// The functions over the limits, in an order, that are still to take. Clauses see them as a list.
+// The functions over the limits, in an order, that are still to take. Clauses see all functions, the limits, and how many are taken.
 #[derive(Drop)]
 pub struct Ranking<'a, R: Rank> {
     tournament: Tournament<'a, R>,
@@ -189,14 +209,13 @@ pub struct Ranking<'a, R: Rank> {
 }
 
 impl<'a, R: Rank> Model for Ranking<'a, R> {
-    ghost use Rattle.std.specs.Prelude.{List};
-    ghost use Rattle.gate_rules.specs.Functions.{Fun};
+    ghost use Rattle.ranking.specs.Ranks.{Standing};
 
-    ghost Value = { List Fun };
+    ghost Value = { Standing };
 
-    ghost use Rattle.ranking.specs.Taking.{Taking, to_take};
+    ghost use Rattle.ranking.specs.Taking.{Taking, standing};
 
-    ghost view = { to_take R.less R.orders };
+    ghost view = { standing };
 
     ghost invariant = { Taking R.less R.orders };
 }
@@ -206,7 +225,8 @@ impl<'a, R: Rank> Ranking<'a, R> {
     // Kept: functions and limits are two parameters, here and where rows are counted and written. The definitions take them one by one, as `listed`
     // does, and a struct of both would be taken apart at each use.
     pub fn new(rank: R, functions: Functions<'a>, limits: Limits) -> Ranking<'a, R>
-        ensures { result ≡ listed R.less R.orders (limits_of limits) (functions_of gate functions.entry.tree.now) }
+        ensures start { result ≡ at_start (limits_of limits) (functions_of gate functions.entry.tree.now) }
+        ensures all_left { to_take R.less R.orders result ≡ listed R.less R.orders (limits_of limits) (functions_of gate functions.entry.tree.now) }
     {
         let mut nodes = [0u16; 16384];
         set_leaves(functions, limits, &mut nodes);
@@ -219,22 +239,13 @@ impl<'a, R: Rank> Ranking<'a, R> {
             taken: 0,
         }
     }
-}
 
-impl<'a, R: Rank + Drop> Iterator for Ranking<'a, R> {
-    type Item = Function<'a>;
-
-    ghost use Rattle.std.specs.Iterator.{YieldsFirstBy, item_count};
-    ghost use Rattle.functions.specs.Shown.{shown};
-
-    // The first of those that are still to take, which is taken.
-    ghost next_gives = { YieldsFirstBy shown (λ fs. fs) };
-
-    ghost remaining = { item_count (λ fs. fs) };
-
-    fn next(&mut self) -> Option<Function<'a>> {
-        let functions = self.tournament.functions;
-        let n = functions.count;
+    // The number of the first of those that are still to take, which is taken.
+    pub fn next_number(&mut self) -> Option<usize>
+        ensures number { Next R.less R.orders self.old (number_of self.old result) self.new }
+        ensures taken { Takes R.less R.orders self.old result self.new }
+    {
+        let n = self.tournament.functions.count;
         let first = usize::from(self.nodes[1]);
         if n <= first {
             return None;
@@ -243,6 +254,24 @@ impl<'a, R: Rank + Drop> Iterator for Ranking<'a, R> {
         self.nodes[leaf] = n as u16;
         self.tournament.play_path(&mut self.nodes, leaf / 2);
         self.taken += 1;
-        Some(functions.get(first))
+        Some(first)
+    }
+}
+
+impl<'a, R: Rank + Drop> Iterator for Ranking<'a, R> {
+    type Item = Function<'a>;
+
+    ghost use Rattle.std.specs.Iterator.{YieldsFirstBy, item_count};
+    ghost use Rattle.functions.specs.Shown.{shown};
+    ghost use Rattle.ranking.specs.Ranks.{to_take};
+
+    // The first of those that are still to take, which is taken.
+    ghost next_gives = { YieldsFirstBy shown (to_take R.less R.orders) };
+
+    ghost remaining = { item_count (to_take R.less R.orders) };
+
+    fn next(&mut self) -> Option<Function<'a>> {
+        let number = self.next_number()?;
+        Some(self.tournament.functions.get(number))
     }
 }

@@ -59,13 +59,13 @@ impl Record {
         words::put_u32s(records, at, numbers);
     }
 
-    // Its name: a part of the lent tree, or an empty one where the record leaves the tree.
+    // Its name: a part of the lent tree, or its empty part where the record leaves the tree.
     #[tactic(auto, unfolding(gate_rules::specs::Records::name_of))]
     pub fn name<'a>(self, tree: &'a [u8]) -> &'a [u8]
         ensures { result.now ≡ name_of tree.now (numbers self) }
     {
         let start = self.start as usize;
         let end = start + self.len as usize;
-        tree.get(start..end).unwrap_or(&[])
+        tree.get(start..end).unwrap_or(&tree[..0])
     }
 }

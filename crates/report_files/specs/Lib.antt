@@ -1,3 +1,4 @@
 pub mod Weights
 pub mod Files
+pub mod OneProof
 pub mod Tops

@@ -1,17 +1,14 @@
 -- The heaviest files as they are held: their numbers, and the weights that these tell of.
-use Rattle.std.specs.Prelude.{ℕ, ◌≡◌, refl, List, [], ◌∷◌, ◌++◌, length, map}
+use Rattle.std.specs.Prelude.{ℕ, ◌≡◌, refl, List, [], ◌∷◌, ◌++◌, length, map, take}
 use Rattle.std.proofs.Common.{arith}
 use Rattle.gate_rules.specs.Report.{Weight, weight_rows}
 use Rattle.report_rows.specs.Texts.{weight-rows-next}
-use Rattle.report_files.specs.Files.{Within, file_row}
+use Rattle.report_files.specs.Files.{file_row}
 use Rattle.report_files.specs.Weights.{weight_at}
-use Rattle.report_files.specs.declared.Heaviest.TheInside.{Inside}
+use Rattle.report_files.specs.declared.Heaviest.{Heaviest}
 
-abbrev pub weights_in : Inside → List Weight
-weights_in h = map (weight_at h.totals.now.tree.now) h.files.items
-
-abbrev pub all_within : Inside → Type 0
-all_within h = Within h.totals.now.tree.now h.files.items
+abbrev pub weights_in : Heaviest → List Weight
+weights_in h = map (weight_at h.totals.now.tree.now) (take h.count h.files)
 
 -- the rows of the files with these numbers
 unfoldable pub rows_of : List ℕ → List ℕ → List ℕ

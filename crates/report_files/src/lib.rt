@@ -1,19 +1,21 @@
 // The report's files: the ten with the greatest sums, and their rows.
 #![tactic(auto)]
 
-ghost use Rattle.std.specs.Prelude.{◌≡◌, List, [], ◌∷◌, ◌++◌, ℕ, ◌≤◌, ◌<◌, length};
+ghost use Rattle.std.specs.Prelude.{◌≡◌, List, [], ◌∷◌, ◌++◌, ℕ, ◌≤◌, ◌<◌, length, map, take};
 ghost use Rattle.text_rules.specs.Selection.{Placed, placed_from};
 ghost use Rattle.gate_rules.specs.Report.{Weight, heavier, weight_rows};
 ghost use Rattle.gate_rules.specs.Tree.{file_count};
 ghost use Rattle.listing.specs.Writes.{Room, Writes};
 ghost use Rattle.order.specs.Chosen.{Decides};
 ghost use Rattle.report_files.specs.Weights.{weight_at};
-ghost use Rattle.report_files.specs.Files.{FileChosen, FileFit, IsFile, file_at, file_first, file_row, heaviest_files, listed, number_in};
+ghost use Rattle.report_files.specs.OneProof.{heavy_prop};
+ghost use Rattle.report_files.specs.Files.{FileChosen, FileFit, Heavy, IsFile, file_at, file_first, file_row, heaviest_files, listed, number_in};
 
-use arrayvec::ArrayVec;
 use listing::Writer;
-use std::marker::Model;
 use sums::Totals;
+
+// How many files are told at most.
+const MOST: usize = 10;
 
 // Kept: here and below a file is its number, below the count of files, beside the sums of all. Two files are compared, and a struct of both would say
 // in each contract that the two are of the same tree, which is no plainer than that each number is below the count.
@@ -133,49 +135,57 @@ fn write_file_row(w: &mut Writer<'_>, totals: &Totals<'_>, k: usize)
     report_rows::write_weight_row(w, sum_at(totals, k), path_at(totals, k));
 }
 
-// The heaviest files by their numbers, at most ten. Clauses see their weights.
-#[derive(Drop)]
+// The heaviest files: the first `count` of the numbers are theirs.
+// Kept: an array of ten numbers and their count, where an ArrayVec would hold the same and could not be copied.
+#[derive(Clone, Copy)]
 pub struct Heaviest<'a> {
-    totals: &'a Totals<'a>,
-    files: ArrayVec<usize, 10>,
-}
-
-impl<'a> Model for Heaviest<'a> {
-    ghost use Rattle.std.specs.Prelude.{List};
-    ghost use Rattle.gate_rules.specs.Report.{Weight};
-
-    ghost Value = { List Weight };
-
-    ghost use Rattle.report_files.specs.Tops.{all_within, weights_in};
-
-    ghost view = { weights_in };
-
-    ghost invariant = { all_within };
+    pub totals: &'a Totals<'a>,
+    pub count: usize,
+    pub files: [usize; MOST],
+    pub ghost few: { count ≤ 10 },
+    pub ghost heavy: { Heavy totals.now.tree.now (take count files) } by { heavy_prop totals.now.tree.now (take count files) },
 }
 
 impl<'a> Heaviest<'a> {
+    ghost use Rattle.report_files.specs.Tops.{weights_in};
+
     // At most ten passes over the files.
     pub fn new(totals: &'a Totals<'a>) -> Heaviest<'a>
-        ensures { result ≡ heaviest_files totals.now.tree.now }
+        ensures { (result.totals.now.tree.now ≡ totals.now.tree.now) × (weights_in result ≡ heaviest_files totals.now.tree.now) }
     {
-        let mut files = ArrayVec::new();
+        let mut files = [0usize; MOST];
         let mut last = None;
-        for _done in 0..files.capacity() {
+        for done in 0..MOST {
             last = next_file(totals, last);
             let Some(file) = last else {
-                return Heaviest { totals, files };
+                return Heaviest {
+                    totals,
+                    count: done,
+                    files,
+                };
             };
-            files.push(file);
+            files[done] = file;
         }
-        Heaviest { totals, files }
+        Heaviest {
+            totals,
+            count: MOST,
+            files,
+        }
+    }
+
+    // Their numbers, the heaviest one first.
+    pub fn files(&self) -> &[usize]
+        ensures { Heavy self.now.totals.now.tree.now result.now × (weights_in self.now ≡ map (weight_at self.now.totals.now.tree.now) result.now) }
+    {
+        &self.files[..self.count]
     }
 
     // The bytes of their rows.
     pub fn rows_length(&self) -> usize
-        ensures { (result ≡ length (weight_rows self.now)) × (result ≤ 42949674000) }
+        ensures { (result ≡ length (weight_rows (weights_in self.now))) × (result ≤ 42949674000) }
     {
         let mut bytes: usize = 0;
-        for k in &self.files {
+        for k in self.files() {
             bytes += file_row_length(self.totals, *k);
         }
         bytes
@@ -183,10 +193,10 @@ impl<'a> Heaviest<'a> {
 
     // Their rows.
     pub fn write_rows(&self, w: &mut Writer<'_>)
-        requires { Room (weight_rows self.now) w.old }
-        ensures { Writes (weight_rows self.now) w.old w.new }
+        requires { Room (weight_rows (weights_in self.now)) w.old }
+        ensures { Writes (weight_rows (weights_in self.now)) w.old w.new }
     {
-        for k in &self.files {
+        for k in self.files() {
             write_file_row(w, self.totals, *k);
         }
     }

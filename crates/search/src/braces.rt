@@ -48,7 +48,7 @@ fn further(length: usize, from: usize) -> usize
 }
 
 // A text, and what was learnt of its braces. Clauses see the text.
-#[derive(Drop)]
+#[derive(Clone, Drop)]
 pub struct Braces<'a> {
     pub text: &'a [u8],
     // no `{` stands from here on, and no `}`

@@ -30,7 +30,7 @@ pub struct Signature {
 }
 
 // A text with what is noted of its brackets, the sums of its chunks, and the last long searches for a body. Clauses see the text.
-#[derive(Drop)]
+#[derive(Clone, Drop)]
 pub struct Notes<'a> {
     lists: Lists<'a>,
     kept: Kept,
@@ -65,6 +65,21 @@ impl<'a> Notes<'a> {
     {
         self.lists.begin(text);
         self.kept.forget(0);
+    }
+
+    // Another text, lent for another time, of which nothing is noted. The tables are moved, and not written anew.
+    pub fn with_text<'b>(self, text: &'b [u8]) -> Notes<'b>
+        ensures { result ≡ text.now }
+    {
+        let Notes {
+            lists,
+            kept: mut searches,
+        } = self;
+        searches.forget(0);
+        Notes {
+            lists: lists.with_text(text),
+            kept: searches,
+        }
     }
 
     // The text.

@@ -13,7 +13,7 @@ use std::marker::Model;
 use windows::{Note, Window};
 
 // A text with what is noted of its brackets and the sums of its chunks. Clauses see the text.
-#[derive(Drop)]
+#[derive(Clone, Drop)]
 pub struct Lists<'a> {
     text: &'a [u8],
     window: Window,
@@ -60,6 +60,24 @@ impl<'a> Lists<'a> {
         self.text = text;
         self.window.clear();
         self.sums.clear();
+    }
+
+    // Another text, lent for another time, of which nothing is noted. The tables are moved, and not written anew.
+    pub fn with_text<'b>(self, text: &'b [u8]) -> Lists<'b>
+        ensures { result ≡ text.now }
+    {
+        let Lists {
+            window: mut notes,
+            mut sums,
+            ..
+        } = self;
+        notes.clear();
+        sums.clear();
+        Lists {
+            text,
+            window: notes,
+            sums,
+        }
     }
 
     // The text.

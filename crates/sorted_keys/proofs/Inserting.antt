@@ -1,5 +1,9 @@
 -- The keys that are held, after one key more.
-use Rattle.std.proofs.Common.{ℕ, zero, ◌&&◌, ◌+◌, ◌≤◌, ◌<◌, ◌≡◌, ap, ap₂, subst, sym, ◌∙◌, true, false, suc, inl, inr, ltb, ltb-true, ltb-false, List, [], length, length-take, take, take_all, get_or, arith}
+use Rattle.std.specs.List.{refill}
+use Rattle.std.proofs.Math.Seq.{take-append_seam}
+use Rattle.std.proofs.lemmas.List.{append_assoc, drop-drop, length-append, length-drop, take-append-drop}
+use Rattle.std.proofs.lemmas.Slice.{drop-put_mid, take-put_mid}
+use Rattle.std.proofs.Common.{◌++◌, ◌∷◌, drop, drop_of_length-le, ℕ, zero, ◌&&◌, ◌+◌, ◌≤◌, ◌<◌, ◌≡◌, ap, ap₂, subst, sym, ◌∙◌, true, false, suc, inl, inr, ltb, ltb-true, ltb-false, List, [], length, length-take, take, take_all, get_or, arith}
 use Rattle.text_rules.specs.Bytes.{All, before, same}
 use borrow.Author.Tests.{lt-ltb}
 use Rattle.text_rules.specs.BytesLaws.{and_left, and_right, whether}
@@ -65,3 +69,47 @@ module _ (s : List ℕ) (ps new : List Place) (h : Held s ps) (ks : List (List �
 -- there are at most 8,192 keys
 pub few-keys : (s : List ℕ) (ps : List Place) → Held s ps → (ks : List (List ℕ)) → keys_at s ps ≡ ks → length ks ≤ 8192
 few-keys s ps h ks e = omega (arith, ap length e, map-length (bytes_at s) ps, h.few)
+
+-- items written anew as a whole
+pub refill-all : {A : Type 0} (n : ℕ) (xs ws : List A) → n ≡ length xs → length ws ≡ length xs → refill n xs ws ≡ ws
+refill-all n xs ws e f =
+    let w : n ≡ length ws = omega (arith, e, f) in
+    let none : drop (length ws) xs ≡ [] = drop_of_length-le xs (omega (arith, f)) in
+    ap (λ k. take k (ws ++ drop (length ws) xs)) w ∙ ap (λ l. take (length ws) (ws ++ l)) none ∙ take-append_seam ws []
+
+-- put in at the end, an element stands behind all
+pub insert-end : {A : Type 0} (at : ℕ) (x : A) (xs : List A) → at ≡ length xs → insert_at at x xs ≡ xs ++ x ∷ []
+insert-end at x xs e =
+    let all : take at xs ≡ xs = ap (λ k. take k xs) e ∙ take_all (length xs) xs (omega arith) in
+    let none : drop at xs ≡ [] = drop_of_length-le xs (omega (arith, e)) in
+    ap₂ (λ a b. a ++ x ∷ b) all none
+
+-- a list with others in place of the `n` elements from `a` on
+abbrev pub with_part : {A : Type 0} (a n : ℕ) (xs ws : List A) → List A
+with_part a n xs ws = take a xs ++ (ws ++ drop n (drop a xs))
+
+-- the elements of a part, moved by one: one stands in front, and the last one is put in behind the part
+module _ {A : Type 0} (a n : ℕ) (xs ws : List A) (x y : A) (fits : a + n ≤ length xs) (part : ws ++ y ∷ [] ≡ x ∷ take n (drop a xs)) where
+  as-many : length ws ≡ n
+  as-many = omega (arith, fits, length-append ws (y ∷ []), ap length part, length-take n (drop a xs), length-drop a xs)
+
+  pub moved-length : length (with_part a n xs ws) ≡ length xs
+  moved-length =
+      omega (
+        arith,
+        fits,
+        as-many,
+        length-append (take a xs) (ws ++ drop n (drop a xs)),
+        length-append ws (drop n (drop a xs)),
+        length-take a xs,
+        length-drop n (drop a xs),
+        length-drop a xs,
+      )
+
+  pub moved : insert_at (a + n) y (with_part a n xs ws) ≡ insert_at a x xs
+  moved =
+      let rest = drop n (drop a xs) in
+      let front : take (a + n) (with_part a n xs ws) ≡ take a xs ++ ws = take-put_mid a n xs ws (a + n) (ap (λ k. a + k) (sym as-many)) (omega (arith, fits)) in
+      let behind : drop (a + n) (with_part a n xs ws) ≡ rest = drop-put_mid a n xs ws (a + n) (omega arith) (omega (arith, fits)) as-many ∙ sym (drop-drop n a xs) in
+      let from : ws ++ y ∷ rest ≡ x ∷ drop a xs = sym (append_assoc ws (y ∷ []) rest) ∙ ap (λ b. b ++ rest) part ∙ ap (λ b. x ∷ b) (take-append-drop n (drop a xs)) in
+      ap₂ (λ b c. b ++ y ∷ c) front behind ∙ append_assoc (take a xs) ws (y ∷ rest) ∙ ap (λ b. take a xs ++ b) from

@@ -2,7 +2,7 @@
 // found by halves.
 #![tactic(auto)]
 
-ghost use Rattle.std.specs.Prelude.{◌≡◌, ◌&&◌, ltb, [], ◌+◌, ◌≤◌, ◌<◌, length, take, get_or};
+ghost use Rattle.std.specs.Prelude.{◌≡◌, ◌&&◌, ltb, [], ◌∷◌, ◌++◌, ◌+◌, ◌≤◌, ◌<◌, length, take, get_or};
 ghost use Rattle.arrayvec.specs.ArrayVec.{array_vec_len};
 ghost use Rattle.text_rules.specs.Bytes.{before, same};
 ghost use Rattle.text_rules.specs.Search.{part};
@@ -12,6 +12,7 @@ ghost use Rattle.sorted_keys.specs.Insert.{insert, insert_at, place_of};
 use arrayvec::ArrayVec;
 use baseline::Baseline;
 use std::marker::Model;
+use std::ops::Range;
 
 // How many keys there may be.
 pub const MOST: usize = 8192;
@@ -43,13 +44,57 @@ impl<'a> Model for Keys<'a> {
     ghost invariant = { all_held };
 }
 
+// Eight places move by one: the one that is given stands in front, and the last one is handed back.
+// Kept: all eight are read before one is written, so that they go two at a time, as 16 bytes. Read and written in turn, each goes alone.
+fn carry_eight(cells: &mut [Place], first: Place) -> Place
+    requires { length cells.old ≡ 8 }
+    ensures { cells.new ++ result ∷ [] ≡ first ∷ cells.old }
+{
+    let a = cells[0];
+    let b = cells[1];
+    let c = cells[2];
+    let d = cells[3];
+    let e = cells[4];
+    let f = cells[5];
+    let g = cells[6];
+    let last = cells[7];
+    cells[0] = first;
+    cells[1] = a;
+    cells[2] = b;
+    cells[3] = c;
+    cells[4] = d;
+    cells[5] = e;
+    cells[6] = f;
+    cells[7] = g;
+    last
+}
+
+// All places move by one: the one that is given stands in front, and the last one is handed back.
+// Kept: `insert` calls memmove, a name that the archive for C would need from outside.
+fn carry(cells: &mut [Place], first: Place) -> Place
+    ensures { cells.new ++ result ∷ [] ≡ first ∷ cells.old }
+{
+    let eights = cells.len() / 8;
+    let mut carried = first;
+    for k in 0..eights {
+        carried = carry_eight(&mut cells[8 * k..8 * k + 8], carried);
+    }
+    for i in 8 * eights..cells.len() {
+        let next = cells[i];
+        cells[i] = carried;
+        carried = next;
+    }
+    carried
+}
+
 // A place put in at a number. Those from there on move by one, and where all are taken, the last one is dropped.
 fn put_in(places: &mut ArrayVec<Place, 8192>, at: usize, place: Place)
     requires { (at ≤ array_vec_len places.old) × (at < 8192) }
     ensures { places.new.items ≡ take 8192 (insert_at at place places.old.items) }
 {
     places.truncate(MOST - 1);
-    places.insert(at, place);
+    let last = carry(&mut places[at..], place);
+    places.push(last);
 }
 
 impl<'a> Keys<'a> {
@@ -73,14 +118,24 @@ impl<'a> Keys<'a> {
         self.places.len()
     }
 
+    // Where the key with a number stands in the lines.
+    pub fn span(&self, i: usize) -> Range<usize>
+        requires { i < length self.now.keys }
+        ensures bytes { part result.start result.end self.now.lines ≡ get_or self.now.keys i [] }
+        ensures order { result.start ≤ result.end }
+        ensures inside { result.end ≤ length self.now.lines }
+    {
+        let place = self.places[i];
+        place.from as usize..place.to as usize
+    }
+
     // The bytes of the key with a number.
     pub fn key(&self, i: usize) -> &'a [u8]
         requires { i < length self.now.keys }
         ensures bytes { result.now ≡ get_or self.now.keys i [] }
         ensures short { length result.now ≤ 33554432 }
     {
-        let place = self.places[i];
-        &self.baseline.lines[place.from as usize..place.to as usize]
+        &self.baseline.lines[self.span(i)]
     }
 
     // How many keys stand before a key. They rise, so it is found by halves.

@@ -65,6 +65,7 @@ pub record Ready (s : List ℕ) (c : State) : Type 0 where
 pub record Yields (s : List ℕ) (c : State) (f : Found) (d : State) : Type 0 where
   pub yields : remaining s c ≡ text_fun s f ∷ remaining s d
   pub text : d.text ≡ s
+  pub ready : Ready s d
   pub further : c.at < d.at
   pub name-inside : f.name_at + f.name_len ≤ length s
   pub line-most : f.line ≤ length s
@@ -77,6 +78,7 @@ pub record Yields (s : List ℕ) (c : State) (f : Found) (d : State) : Type 0 wh
 pub record Passes (s : List ℕ) (c d : State) : Type 0 where
   pub same : remaining s c ≡ remaining s d
   pub text : d.text ≡ s
+  pub ready : Ready s d
   pub further : d.at ≡ c.at + 1
 
 -- a cursor at another place
@@ -108,6 +110,7 @@ pub record Ended (s : List ℕ) (c d : State) : Type 0 where
   pub all_found : remaining s c ≡ []
   pub none_left : remaining s d ≡ []
   pub text : d.text ≡ s
+  pub ready : Ready s d
 
 abbrev pub Stepped : List ℕ → State → Option Found → State → Type 0
 Stepped s c (Some f) d = Yields s c f d

@@ -27,7 +27,7 @@ use Rattle.passing.specs.Passing.{Passed}
 use Rattle.passing.specs.declared.Spot.{Spot}
 use Rattle.search.specs.EndLaws.{no_body, no-partner, none-some}
 use Rattle.search.specs.Place.{Absent}
-use Rattle.source.specs.Cursors.{Barren, Calm, Closed, FoundAt, MeasuredAt, Quieter, Ready, SpanAt, Spanless, Yields, moved_to, remaining, remaining_at, text_fun}
+use Rattle.source.specs.Cursors.{Barren, Calm, Closed, FoundAt, MeasuredAt, Quieter, Ready, SpanAt, Spanless, Yields, moved_to, remaining, remaining_at, state, text_fun}
 use Rattle.source.specs.declared.text.Brackets.{Brackets}
 use Rattle.source.specs.State.{State}
 use Rattle.source.specs.declared.Found.{Found}
@@ -87,9 +87,9 @@ module _ (s : List ℕ) (c : State) (h : c.at < length s) (d : State) (next : Ne
       (subst (λ at. Remains at d.line c.resume) (sym next.at-is)
       (subst (λ line. Remains (c.at + 1) line c.resume) (sym next.line-is) (step_past s c.at c.line c.span_end c.resume d.span_end h next.span.left n)))
 
-  pub finds : d.text ≡ s → (f : Found) (m : MeasuredAt s c.at c.line f d.resume) → sought (d.span_end - c.at) (c.resume - c.at) (byte_before s c.at) (drop c.at s) ≡ some m.places → Yields s c f d
+  pub finds : d.text ≡ s → Ready s d → (f : Found) (m : MeasuredAt s c.at c.line f d.resume) → sought (d.span_end - c.at) (c.resume - c.at) (byte_before s c.at) (drop c.at s) ≡ some m.places → Yields s c f d
   unfolding remaining text_fun
-  finds same f m n =
+  finds same ready f m n =
       let g = m.fine in
       let line = count_after lf (get_or s c.at 0) c.line in
       record {
@@ -100,6 +100,7 @@ module _ (s : List ℕ) (c : State) (h : c.at < length s) (d : State) (next : Ne
             ∙ ap (λ k. text_fun s f ∷ remaining_at s k d.line d.span_end (c.at + m.places.body_to)) (sym next.at-is)
             ∙ ap (λ k. text_fun s f ∷ remaining_at s d.at d.line d.span_end k) (sym m.end_is);
         text = same;
+        ready = ready;
         further = omega (arith, next.at-is);
         name-inside = m.name-inside;
         line-most = g.line-most;
@@ -109,6 +110,18 @@ module _ (s : List ℕ) (c : State) (h : c.at < length s) (d : State) (next : Ne
         params-most = g.params-most;
         fine = g;
       }
+
+-- at the start nothing was sought in vain
+pub ready_start : (s t : List ℕ) → Ready s (state t 0 1 0 0 0 0 0)
+unfolding Spanless Barren
+ready_start s t =
+    record {
+      inside = omega arith;
+      line-least = omega arith;
+      line-most = omega arith;
+      no_span = λ x h k. absurd (omega arith);
+      no_function = λ from x h k. absurd (omega arith);
+    }
 
 -- one byte further what holds of a cursor holds
 pub ready_next : (s : List ℕ) (c : State) → c.at < length s → Ready s c → (line : ℕ) → line ≡ count_after lf (get_or s c.at 0) c.line → Ready s (moved_to c (c.at + 1) line)
@@ -232,6 +245,7 @@ yields-later s b c f d e h y =
     record {
       yields = sym e ∙ y.yields;
       text = y.text;
+      ready = y.ready;
       further = omega (arith, y.further);
       name-inside = y.name-inside;
       line-most = y.line-most;

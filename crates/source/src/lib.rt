@@ -10,7 +10,7 @@ ghost use Rattle.text_rules.specs.Classes.{lf};
 ghost use Rattle.text_rules.specs.Search.{count_after};
 ghost use Rattle.source_rules.specs.Finding.{function_at};
 ghost use Rattle.source_rules.specs.TextScan.{functions};
-ghost use Rattle.source.specs.Cursors.{Closed, FoundAt, Measures, Quieter, SpanAt, Stepped, Turned, moved_to, remaining, sought_at, with_name};
+ghost use Rattle.source.specs.Cursors.{Closed, FoundAt, Measures, Quieter, Ready, SpanAt, Stepped, Turned, moved_to, remaining, sought_at, with_name};
 
 use passing::Spot;
 use std::marker::Model;
@@ -19,7 +19,7 @@ use text::{Brackets, Text};
 mod text;
 
 // Where the search for functions stands in a text. Clauses see the numbers, and the text as its bytes.
-#[derive(Drop)]
+#[derive(Clone, Drop)]
 pub struct Cursor<'a> {
     // the text, and what was learnt of it
     text: Text<'a>,
@@ -95,6 +95,7 @@ impl<'a> Cursor<'a> {
     pub fn new(bytes: &'a [u8]) -> Cursor<'a>
         ensures text { result.text ≡ bytes.now }
         ensures all { remaining bytes.now result ≡ functions bytes.now }
+        ensures ready { Ready bytes.now result }
     {
         Cursor {
             text: Text::new(bytes),
@@ -113,6 +114,7 @@ impl<'a> Cursor<'a> {
     pub fn begin(&mut self, bytes: &'a [u8])
         ensures text { self.new.text ≡ bytes.now }
         ensures all { remaining bytes.now self.new ≡ functions bytes.now }
+        ensures ready { Ready bytes.now self.new }
     {
         self.text.begin(bytes);
         self.at = 0;
@@ -122,6 +124,38 @@ impl<'a> Cursor<'a> {
         self.spanless = 0;
         self.barren_from = 0;
         self.barren_to = 0;
+    }
+
+    // The start of another text, lent for another time. The notes are moved, and not written anew.
+    pub fn with_text<'b>(self, bytes: &'b [u8]) -> Cursor<'b>
+        ensures text { result.text ≡ bytes.now }
+        ensures all { remaining bytes.now result ≡ functions bytes.now }
+        ensures ready { Ready bytes.now result }
+    {
+        Cursor {
+            text: self.text.with_text(bytes),
+            at: 0,
+            line: 1,
+            span_end: 0,
+            resume: 0,
+            spanless: 0,
+            barren_from: 0,
+            barren_to: 0,
+        }
+    }
+
+    // The place of the byte to look at next.
+    pub fn at(&self) -> usize
+        ensures { result ≡ self.now.at }
+    {
+        self.at
+    }
+
+    // Its line.
+    pub fn line(&self) -> usize
+        ensures { result ≡ self.now.line }
+    {
+        self.line
     }
 
     // The function whose `fn` stands at the next byte.
@@ -203,7 +237,8 @@ impl<'a> Cursor<'a> {
     // One byte further.
     fn step(&mut self)
         requires { self.old.at < length self.old.text }
-        ensures { self.new ≡ moved_to self.old (self.old.at + 1) (count_after lf (get_or self.old.text self.old.at 0) self.old.line) }
+        ensures ready { Ready self.new.text self.new }
+        ensures moved { self.new ≡ moved_to self.old (self.old.at + 1) (count_after lf (get_or self.old.text self.old.at 0) self.old.line) }
     {
         let s = self.text.bytes();
         self.line = flat::count_after(b'\n', s[self.at], self.line);
@@ -230,6 +265,7 @@ impl<'a> Cursor<'a> {
         ensures passed { (self.new.text ≡ self.old.text)
             × (remaining self.old.text self.old ≡ remaining self.old.text self.new)
             × (self.old.at ≤ self.new.at) }
+        ensures ready { Ready self.new.text self.new }
         ensures inside { result ≡ true → self.new.at < length self.new.text }
         ensures end { result ≡ false → length self.new.text ≤ self.new.at }
     {

@@ -38,7 +38,7 @@ fn is_behind_braces(braces: &Braces, to: usize) -> bool
 }
 
 // A text, what was learnt of its braces, and what is noted of its brackets. Clauses see the text.
-#[derive(Drop)]
+#[derive(Clone, Drop)]
 pub struct Text<'a> {
     braces: Braces<'a>,
     notes: Notes<'a>,
@@ -71,6 +71,16 @@ impl<'a> Text<'a> {
     {
         self.braces = Braces::nothing_learnt(bytes);
         self.notes.begin(bytes);
+    }
+
+    // Another text, lent for another time, of which nothing was learnt. The notes are moved, and not written anew.
+    pub fn with_text<'b>(self, bytes: &'b [u8]) -> Text<'b>
+        ensures { result ≡ bytes.now }
+    {
+        Text {
+            braces: Braces::nothing_learnt(bytes),
+            notes: self.notes.with_text(bytes),
+        }
     }
 
     // Its bytes.

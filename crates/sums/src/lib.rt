@@ -1,13 +1,13 @@
 // The sums of a tree's files: first as plain numbers, by file number, and then as entries of the table that the caller lends.
 #![tactic(auto)]
 
-ghost use Rattle.std.specs.Prelude.{◌≡◌, map, ◌≤◌, length};
+ghost use Rattle.std.specs.Prelude.{◌≡◌, map, ◌≤◌, ◌<◌, length, set, get_or};
 ghost use Rattle.text_rules.specs.Bytes.{overwritten};
 ghost use Rattle.gate_rules.specs.Gate.{gate};
 ghost use Rattle.gate_rules.specs.ReportCall.{sums_of};
 ghost use Rattle.gate_rules.specs.Tree.{file_count};
 ghost use Rattle.sums.specs.Known.{Known};
-ghost use Rattle.sums.specs.Sums.{first_entries};
+ghost use Rattle.sums.specs.Sums.{entry, first_entries, none};
 
 use functions::Functions;
 
@@ -28,16 +28,29 @@ pub struct FileSum {
     pub sum: u32,
 }
 
+// The entry at `at` of a table is stored.
+pub fn add(t: &mut [FileSum], at: usize, file: u32, sum: u32)
+    requires { at < length t.old }
+    ensures { t.new ≡ set t.old at (entry file sum) }
+{
+    t[at] = FileSum { file, sum };
+}
+
+// The entry at `at`.
+pub fn read(table: &[FileSum], at: usize) -> FileSum
+    requires { at < length table.now }
+    ensures { result ≡ get_or table.now at none }
+{
+    table[at]
+}
+
 // The first n entries of a table: each file's number and its sum. The entries beyond remain.
 pub fn fill(t: &mut [FileSum], of: &[u32; 1024], n: u32)
     requires { (n ≤ length t.old) × (n ≤ 1024) }
     ensures { t.new ≡ overwritten (first_entries of.now n) t.old }
 {
     for i in 0..n {
-        t[i as usize] = FileSum {
-            file: i,
-            sum: of[i as usize],
-        };
+        add(t, i as usize, i, of[i as usize]);
     }
 }
 

@@ -116,7 +116,8 @@ fn write_baseline(w: &mut Writer<'_>, functions: Functions, limits: Limits)
     write_rows(w, functions, limits);
 }
 
-// The baseline, at the front of the output.
+// The baseline, at the front of the output. It is no part of its caller, so that its nodes do not lie on the stack while a tree is scanned.
+#[inline(never)]
 pub fn put_baseline(functions: Functions, limits: Limits, out: &mut [u8]) -> usize
     requires { length (baseline_text (limits_of limits) (functions_of gate functions.tree.now)) ≤ length out.old }
     ensures { (result ≡ length (baseline_text (limits_of limits) (functions_of gate functions.entry.tree.now)))

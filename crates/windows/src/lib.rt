@@ -4,6 +4,7 @@
 ghost use Rattle.std.specs.Prelude.{◌≡◌, ℕ, ◌<◌, set};
 ghost use Rattle.windows.specs.Window.{Begins, Kept, noted};
 ghost use Rattle.windows.specs.declared.Note.TheVariants.{Nothing};
+ghost use Rattle.windows.specs.declared.Stage.TheVariants.{Counting};
 
 // The most places of a part.
 pub const MOST: usize = 2048;
@@ -31,16 +32,17 @@ enum Stage {
 }
 
 // The notes of the places of a part.
-#[derive(Drop)]
+#[derive(Clone, Copy)]
 pub struct Window {
     stage: Stage,
     notes: [Note; 2048],
 }
 
 impl Window {
-    // Nothing is noted of any place.
+    // Nothing is noted of any place: no part is begun, and no search is counted.
     pub fn new() -> Window
-        ensures { (at : ℕ) → noted result at ≡ Nothing }
+        ensures nothing { (at : ℕ) → noted result at ≡ Nothing }
+        ensures none_counted { result.stage ≡ Counting 0 0 }
     {
         Window {
             stage: Stage::Counting { from: 0, count: 0 },
@@ -48,9 +50,10 @@ impl Window {
         }
     }
 
-    // Nothing is noted of any place. The notes are changed where they stand, since they are large.
+    // Nothing is noted of any place: no part is begun, and no search is counted. The notes are changed where they stand, since they are large.
     pub fn clear(&mut self)
-        ensures { (at : ℕ) → noted self.new at ≡ Nothing }
+        ensures nothing { (at : ℕ) → noted self.new at ≡ Nothing }
+        ensures none_counted { self.new.stage ≡ Counting 0 0 }
     {
         self.stage = Stage::Counting { from: 0, count: 0 };
     }

@@ -1,13 +1,18 @@
--- `blanking::copy` meets its contract: the bytes that it writes, at which no token begins, leave the finished output the same.
-use Rattle.std.proofs.Common.{ℕ, ◌++◌, ◌-◌, ◌∙◌, List, ap, arith, drop, take}
+-- `blanking::copy` meets its contract: each byte that it writes leaves the finished output the same.
+use Rattle.std.proofs.Common.{ℕ, ◌∙◌, ◌≡◌, ap, arith}
+use Rattle.std.proofs.Math.ListN.{length-set}
 use Rattle.blanking.specs.Bare.{finished}
-use Rattle.blanking.proofs.Whole.{copied_all}
+use Rattle.blanking.proofs.Whole.{copied}
 use Rattle.blanking.proofs.copy.Goals as goal
+
+pub loop-at-preserved : goal.loop-at-preserved
+loop-at-preserved c =
+    let s = c.args.text.now in
+    let l = c.loop-at in
+    (length-set l.output l.at _ ∙ l.invariant.0, copied s l.output l.at (omega arith) (omega arith) (c.requires.3 l.at (omega arith) (omega arith)) ∙ l.invariant.1)
 
 pub returns : goal.returns
 returns c =
     let a = c.args in
-    let n = a.to - a.from in
-    let out = a.output.now in
-    ap (λ (w : List ℕ). finished a.text.now (take a.from out ++ (w ++ drop n (drop a.from out))) a.to a.to) c.copy_from_slice.ensures.after
-    ∙ copied_all a.text.now a.to (omega arith) n a.from out (omega arith) (omega arith) c.requires.3
+    let e : a.to ≡ c.loop-at.at = omega arith in
+    ap (λ (k : ℕ). finished a.text.now c.loop-at.output k k) e ∙ c.loop-at.invariant.1

@@ -24,14 +24,14 @@ returns-then-output-report_length c =
     let fs = c.args.functions in
     let L = limits_of c.args.limits in
     let size = text-length L fs.tree.now fs.count c.count-counts.result fs.all c.count-counts.ensures in
-    let files = ap (λ ws. length (weight_rows ws)) (c.new-heaviest.ensures ∙ ap heaviest_files c.requires) in
+    let files = ap (λ ws. length (weight_rows ws)) (c.new-heaviest.ensures.1 ∙ ap heaviest_files c.requires) in
     listed-short L fs.tree.now c.args.output.now _ (omega (arith, size, files, c.if-output-report_length.true, c.report_length.ensures)) (refl, refl, refl)
 
 pub write_report-requires : goal.write_report-requires
 write_report-requires c =
     let fs = c.args.functions in
     let L = limits_of c.args.limits in
-    let heaviest = c.new-heaviest.ensures ∙ ap heaviest_files c.requires in
+    let heaviest = c.new-heaviest.ensures.1 ∙ ap heaviest_files c.requires in
     let size = text-length L fs.tree.now fs.count c.count-counts.result fs.all c.count-counts.ensures in
     (c.count-counts.ensures, heaviest, omega (arith, size, ap (λ ws. length (weight_rows ws)) heaviest, c.if-output-report_length.false, c.report_length.ensures))
 

@@ -23,7 +23,7 @@ pub loop-k-preserved : goal.loop-k-preserved
 loop-k-preserved c =
     let k = c.args.bytes.now in
     let here = sym (c.has_key.ensures ∙ ap (λ f. same k (key f)) c.get.ensures) ∙ c.if-has_key.false in
-    (omega arith, none_more k (functions_of gate c.args.fs.tree.now) c.args.numbers.start c.loop-k.k c.loop-k.invariant.1 here)
+    (omega arith, none_more k (functions_of gate c.args.fs.tree.now) c.args.numbers.from c.loop-k.k c.loop-k.invariant.1 here)
 
 pub returns : goal.returns
 returns c = record { live = λ e. absurd (true_false false e refl); dead = λ e i a b. c.loop-k.invariant.1 i a (omega (arith, b, c.loop-k-test.false)) }

@@ -6,4 +6,4 @@ use Rattle.live.specs.Live.{NoneHas}
 use Rattle.live.proofs.any_has.Given as goal
 
 abbrev pub invariant-loop-k : goal.invariant-loop-k
-invariant-loop-k l = (l.fn.numbers.start ≤ l.k) × NoneHas l.bytes (functions_of gate l.fs.tree.now) l.fn.numbers.start l.k
+invariant-loop-k l = (l.fn.numbers.from ≤ l.k) × NoneHas l.bytes (functions_of gate l.fs.tree.now) l.fn.numbers.from l.k

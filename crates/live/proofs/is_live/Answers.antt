@@ -8,4 +8,4 @@ use Rattle.live.proofs.is_live.Goals as goal
 pub returns : goal.returns
 returns c =
     let k = c.args.bytes.now in
-    decided k (functions_of gate c.args.fs.tree.now) c.range.result.start c.range.result.end (c.range.ensures.others k refl) c.any_has.result c.any_has.ensures.live c.any_has.ensures.dead
+    decided k (functions_of gate c.args.fs.tree.now) c.range.result.from c.range.result.to (c.range.ensures.others k refl) c.any_has.result c.any_has.ensures.live c.any_has.ensures.dead

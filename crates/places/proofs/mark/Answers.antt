@@ -9,11 +9,11 @@ pub loop-k-init : goal.loop-k-init
 loop-k-init c =
     let a = c.args in
     let r = c.range-numbers in
-    marked_start a.bytes.now a.place (functions_of gate a.fs.tree.now) a.places.now r.result.start r.result.end (r.ensures.others a.bytes.now refl)
+    marked_start a.bytes.now a.place (functions_of gate a.fs.tree.now) a.places.now r.result.from r.result.to (r.ensures.others a.bytes.now refl)
 
 pub returns : goal.returns
 returns c =
     let a = c.args in
     let r = c.range-numbers in
-    marked-end a.bytes.now a.place (functions_of gate a.fs.tree.now) a.places.now r.result.start r.result.end c.loop-k.k c.loop-k.places (r.ensures.others a.bytes.now refl)
+    marked-end a.bytes.now a.place (functions_of gate a.fs.tree.now) a.places.now r.result.from r.result.to c.loop-k.k c.loop-k.places (r.ensures.others a.bytes.now refl)
     c.loop-k-test.false c.loop-k.invariant

@@ -16,7 +16,7 @@ pub loop-i-preserved : goal.loop-i-preserved
 loop-i-preserved c =
     let i = c.loop-i.i in
     let of = c.args.of.now in
-    ap (λ (s : List FileSum). set s i (entry i (get_or of i 0))) c.loop-i.invariant ∙ sym (filled_next of i c.args.t.now (omega (arith, c.requires.0)))
+    c.add.ensures ∙ ap (λ (s : List FileSum). set s i (entry i (get_or of i 0))) c.loop-i.invariant ∙ sym (filled_next of i c.args.t.now (omega (arith, c.requires.0)))
 
 pub returns : goal.returns
 returns c =

@@ -1,20 +1,16 @@
 -- At the start nothing is open, and nothing was sought in vain.
-use Rattle.std.proofs.Common.{refl, arith}
+use Rattle.std.proofs.Common.{refl}
 use Rattle.source_rules.specs.TextScan.{functions}
-use Rattle.source.specs.Cursors.{Barren, Spanless, remaining, remaining_at}
+use Rattle.source.specs.Cursors.{remaining, remaining_at}
+use Rattle.source.specs.Steps.{ready_start}
 use Rattle.source.proofs.Cursor.begin.Goals as goal
 
 pub invariant_of-self : goal.invariant_of-self
-unfolding Spanless Barren
-invariant_of-self c =
-    record {
-      inside = omega arith;
-      line-least = omega arith;
-      line-most = omega arith;
-      no_span = λ x h k. absurd (omega arith);
-      no_function = λ from x h k. absurd (omega arith);
-    }
+invariant_of-self c = ready_start _ _
 
 pub returns-clause-all : goal.returns-clause-all
 unfolding remaining remaining_at functions
 returns-clause-all c = refl
+
+pub returns-clause-ready : goal.returns-clause-ready
+returns-clause-ready c = ready_start _ _

@@ -12,3 +12,10 @@ invariant_of-self c =
     let here = subst (λ o. o.at < length o.text) (sym c.self.view_is) c.requires in
     ready_next i.text (state i.text i.at i.line i.span_end i.resume i.spanless i.barren_from i.barren_to) here c.self.invariant _
     (c.count_after-self-inside.ensures.0 ∙ ap (λ u. count_after lf (get_or u i.at 0) i.line) c.bytes-s.ensures)
+
+pub returns-clause-ready : goal.returns-clause-ready
+returns-clause-ready c =
+    let i = c.self.inside in
+    let here = subst (λ o. o.at < length o.text) (sym c.self.view_is) c.requires in
+    ready_next i.text (state i.text i.at i.line i.span_end i.resume i.spanless i.barren_from i.barren_to) here c.self.invariant _
+    (c.count_after-self-inside.ensures.0 ∙ ap (λ u. count_after lf (get_or u i.at 0) i.line) c.bytes-s.ensures)

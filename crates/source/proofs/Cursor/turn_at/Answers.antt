@@ -9,7 +9,7 @@ returns-then-not-is_sought c =
     let old = c.args.self.now in
     let m = c.open_span.new.self in
     let o = c.open_span.ensures in
-    past old.text old m m c.step.new.self c.requires refl o.span o.others refl c.step.ensures refl
+    past old.text old m m c.step.new.self c.requires refl o.span o.others refl c.step.ensures.moved c.step.ensures.ready refl
     (c.is_sought.ensures.not_found c.if-not-is_sought.true)
 
 pub returns : goal.returns
@@ -17,5 +17,5 @@ returns c =
     let old = c.args.self.now in
     let o = c.open_span.ensures in
     let found = c.measure-found in
-    turned old.text old c.open_span.new.self found.new.self c.step-2.new.self c.requires refl o.span o.others found.ensures.others c.step-2.ensures
+    turned old.text old c.open_span.new.self found.new.self c.step-2.new.self c.requires refl o.span o.others found.ensures.others c.step-2.ensures.moved c.step-2.ensures.ready
     found.result found.ensures.measured (c.is_sought.ensures.found c.if-not-is_sought.false)

@@ -1,6 +1,6 @@
 -- Each turn leaves the functions that are still to come, until one is found or the text ends.
 use Rattle.std.proofs.Common.{◌≡◌, ◌∙◌, [], ap, arith, length, subst}
-use Rattle.source.specs.Cursors.{remaining}
+use Rattle.source.specs.Cursors.{Ready, remaining}
 use Rattle.source.specs.Steps.{remaining-end}
 use Rattle.source.proofs.CursorIterator.next.Goals as goal
 
@@ -13,4 +13,4 @@ returns-clause-steps c =
     let text : d.text ≡ s = p.passed.0 ∙ l.invariant.text in
     let same : remaining s l.self ≡ remaining s d = subst (λ t. remaining t l.self ≡ remaining t d) l.invariant.text p.passed.1 in
     let none-left : remaining s d ≡ [] = remaining-end s d (omega (arith, ap length text, p.end c.loop-self-test.false)) in
-    record { all_found = l.invariant.same ∙ same ∙ none-left; none_left = none-left; text = text }
+    record { all_found = l.invariant.same ∙ same ∙ none-left; none_left = none-left; text = text; ready = subst (λ t. Ready t d) text p.ready }

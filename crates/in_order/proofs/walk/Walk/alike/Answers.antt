@@ -14,4 +14,4 @@ returns-in-Some-clause-ranged c =
     let l = c.in-Some.last in
     let m = both-meet f.last f.key f.common f.meets k l c.requires.1 (c.requires.0 ∙ c.in-Some.is) in
     let same = same-path l.bytes.now k.bytes.now l.path f.common l.path_is (omega (arith, f.inside k c.requires.1, k.path_is)) c.if-last-found.true m in
-    ranged_on (functions_of gate w.functions.tree.now) w.alike.start w.alike.end w.last l k c.in-Some.is same w.ranged
+    ranged_on (functions_of gate w.functions.tree.now) w.alike.from w.alike.to w.last l k c.in-Some.is same w.ranged

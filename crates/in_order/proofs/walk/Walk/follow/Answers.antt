@@ -14,5 +14,5 @@ invariant_of-self c =
     let same = ap path_of c.plain.ensures.0 ∙ follow-own w.lines.now g.last w.from c.args.line g.follows in
     record {
       few = w.few;
-      ranged = ranged_on (functions_of gate w.functions.tree.now) w.alike.start w.alike.end w.last g.last c.plain.result g.last-is same w.ranged;
+      ranged = ranged_on (functions_of gate w.functions.tree.now) w.alike.from w.alike.to w.last g.last c.plain.result g.last-is same w.ranged;
     }

@@ -14,6 +14,6 @@ returns c =
     let k = c.args.key in
     let fs = functions_of gate w.functions.tree.now in
     let is = c.repeats.ensures ∙ ap (λ o. repeats_last (text_of c.args.found.last) (text_of o)) c.requires.0 in
-    let only = ranged-only fs w.alike.start w.alike.end w.last k c.requires.1 w.ranged in
-    decided k.bytes.now fs w.alike.start w.alike.end only c.any_has.result c.any_has.ensures.live c.any_has.ensures.dead
+    let only = ranged-only fs w.alike.from w.alike.to w.last k c.requires.1 w.ranged in
+    decided k.bytes.now fs w.alike.from w.alike.to only c.any_has.result c.any_has.ensures.live c.any_has.ensures.dead
     ∙ known-rest _ _ (sym is ∙ c.if-repeats.false)
