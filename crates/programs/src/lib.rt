@@ -21,7 +21,9 @@ use std::{fs, io};
 // The baseline's file.
 const BASELINE: &str = "tools/complexity-baseline.tsv";
 
-// What is said where it cannot be written.
+// What is said where it cannot be read, and where it cannot be written.
+const UNREAD: &str = "cannot read tools/complexity-baseline.tsv";
+
 const UNWRITTEN: &str = "could not write tools/complexity-baseline.tsv";
 
 // How many names are tried for the new file beside it.
@@ -86,26 +88,18 @@ pub fn read_tree<R: Input + Eprint>(rt: &R, buf: &mut [u8]) -> Option<usize>
     )
 }
 
-// The bytes of the baseline's file; a missing file is an empty baseline.
-fn read_file<R: Files>(rt: &R, buf: &mut [u8]) -> io::Result<usize>
-    ensures { IfOk result (λ count. IsPrefixLen count buf.new) }
-{
-    match fs::open(rt, BASELINE) {
-        Ok(mut file) => read(&mut file, buf),
-        Err(error) if error.kind() == ErrorKind::NotFound => Ok(0),
-        Err(error) => Err(error),
-    }
-}
-
-// The bytes of the baseline, none where it has no file. Where this fails it says why.
+// The bytes of the baseline, none where it has no file: a missing file is an empty baseline. Where this fails it says why, before the file is closed.
 pub fn read_baseline<R: Files + Eprint>(rt: &R, buf: &mut [u8]) -> Option<usize>
     ensures { IfSome result (λ count. IsPrefixLen count buf.new) }
 {
-    said(
-        rt,
-        "cannot read tools/complexity-baseline.tsv",
-        read_file(rt, buf),
-    )
+    match fs::open(rt, BASELINE) {
+        Ok(mut file) => said(rt, UNREAD, read(&mut file, buf)),
+        Err(error) if error.kind() == ErrorKind::NotFound => Some(0),
+        Err(error) => {
+            fail(rt, UNREAD, error);
+            None
+        }
+    }
 }
 
 // Makes a new file beside the baseline's, which nobody else may read yet, and tells its name. A name that another file has is not taken.
