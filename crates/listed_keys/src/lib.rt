@@ -25,7 +25,7 @@ pub fn write_key(w: &mut Writer<'_>, bytes: &[u8])
 }
 
 // A line's field, up to the next tab, which is there. The answer is the tab's place.
-// Kept: a byte is sought and written in one step. To seek the tab first and write the part up to it takes half as long again for a short field.
+// Kept: a byte is sought and written in one step. To seek the tab first and write the part up to it reads each byte twice.
 fn write_field(lines: &[u8], from: usize, w: &mut Writer<'_>) -> usize
     requires inside { tab_from lines.now from < length lines.now }
     requires room { Room (first_field (drop from lines.now)) w.old }

@@ -5,7 +5,7 @@ ghost use Rattle.std.specs.Prelude.{◌≡◌};
 ghost use Rattle.text_rules.specs.Bytes.{before, same};
 
 // Whether two texts are the same. They are compared from their ends, since paths and names often begin alike.
-// Kept: `==` compares from the start, and takes 4.5 times as long where 8,192 names of 900 bytes begin alike.
+// Kept: `==` compares from the start, and a check takes some four times as long where 8,192 names of 900 bytes begin alike.
 pub fn same_bytes(s: &[u8], t: &[u8]) -> bool
     ensures { result ≡ same s.now t.now }
 {
