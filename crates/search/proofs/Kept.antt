@@ -7,18 +7,17 @@ use Rattle.text_rules.specs.Classes.{brace_close, brace_open}
 use Rattle.source_rules.specs.Brackets.{partner}
 use Rattle.source_rules.proofs.WalkSteps.{partner-end}
 use Rattle.search.specs.EndLaws.{no-partner, partner-more}
-use Rattle.search.specs.Learned.{Learned}
 use Rattle.search.specs.Passing.{Passes}
 use Rattle.search.specs.declared.Unmatched.{Unmatched}
-use Rattle.search.specs.declared.braces.Braces.TheInside.{Inside}
+use Rattle.search.specs.declared.braces.Braces.{Braces}
 
 -- behind the last `}` no brace has a partner
-pub closed_before : (from depth : ℕ) (b : Inside) → Learned b → b.last_closing ≤ from → partner brace_open brace_close depth from (drop from b.text.now) ≡ none
-closed_before from depth b k h = no-partner brace_open brace_close b.text.now b.last_closing from depth k.no-closing h
+pub closed_before : (from depth : ℕ) (b : Braces) → b.last_closing ≤ from → partner brace_open brace_close depth from (drop from b.text.now) ≡ none
+closed_before from depth b h = no-partner brace_open brace_close b.text.now b.last_closing from depth b.no_closing h
 
 -- nor has one with as many open inside it as are known
-pub deep_open : (d : ℕ) (b : Inside) → Learned b → b.depth ≤ d → partner brace_open brace_close d b.at (drop b.at b.text.now) ≡ none
-deep_open d b k h = partner-more brace_open brace_close (drop b.at b.text.now) b.depth d b.at h k.none-there
+pub deep_open : (d : ℕ) (b : Braces) → b.depth ≤ d → partner brace_open brace_close d b.at (drop b.at b.text.now) ≡ none
+deep_open d b h = partner-more brace_open brace_close (drop b.at b.text.now) b.depth d b.at h b.none_there
 
 -- nor has any at the end
 pub past_all : (at depth : ℕ) (s : List ℕ) → length s ≤ at → partner brace_open brace_close depth at (drop at s) ≡ none

@@ -1,5 +1,5 @@
 -- A place as the code tells it, what is known of braces, and the laws of searches that find nothing.
 pub mod EndLaws
-pub mod Learned
+pub mod Open
 pub mod Passing
 pub mod Place

@@ -4,10 +4,10 @@ ghost use Rattle.std.specs.Prelude.{◌≡◌, ◌≢◌, ◌<◌, ℕ, MatchOpt
 ghost use Rattle.std.proofs.Math.Option.{none};
 ghost use Rattle.text_rules.specs.Classes.{brace_close, brace_open};
 ghost use Rattle.source_rules.specs.Brackets.{partner};
-ghost use Rattle.search.specs.Place.{Absent, place_of};
+ghost use Rattle.search.specs.Open.{Open, open_prop};
+ghost use Rattle.search.specs.Place.{Absent, absent_prop, place_of};
 
 use super::{Met, count_unmatched, partner_before};
-use std::marker::Model;
 
 // The last `x`.
 // Kept: the library goes through a list from its two ends by two methods, so `first` and `last` are two functions.
@@ -47,8 +47,8 @@ fn further(length: usize, from: usize) -> usize
     from.saturating_add(1024 + length / 1024).min(length)
 }
 
-// A text, and what was learnt of its braces. Clauses see the text.
-#[derive(Clone, Drop)]
+// A text, and what was learnt of its braces.
+#[derive(Clone, Copy)]
 pub struct Braces<'a> {
     pub text: &'a [u8],
     // no `{` stands from here on, and no `}`
@@ -60,25 +60,19 @@ pub struct Braces<'a> {
     // behind which places the last two `{` stood that were sought and have no partner
     pub latest: Option<usize>,
     pub older: Option<usize>,
-}
-
-impl<'a> Model for Braces<'a> {
-    ghost use Rattle.std.specs.Prelude.{List, ℕ};
-
-    ghost Value = { List ℕ };
-
-    ghost use Rattle.search.specs.Learned.{Learned};
-
-    ghost view = { λ b. b.text.now };
-
-    ghost invariant = { Learned };
+    pub ghost no_opening: { Absent brace_open text.now last_opening } by { absent_prop brace_open text.now last_opening },
+    pub ghost no_closing: { Absent brace_close text.now last_closing } by { absent_prop brace_close text.now last_closing },
+    pub ghost none_there: { partner brace_open brace_close depth at (drop at text.now) ≡ none },
+    pub ghost inside: { at ≤ length text.now },
+    pub ghost latest_none: { Open text.now latest } by { open_prop text.now latest },
+    pub ghost older_none: { Open text.now older } by { open_prop text.now older },
 }
 
 impl<'a> Braces<'a> {
     // At the start of a text.
     #[tactic(auto, using(crate::proofs::Finds::none_behind))]
     pub fn nothing_learnt(text: &'a [u8]) -> Braces<'a>
-        ensures { result ≡ text.now }
+        ensures { result.text.now ≡ text.now }
     {
         let last_closing = behind_last(text, b'}');
         Braces {
@@ -94,14 +88,14 @@ impl<'a> Braces<'a> {
 
     // The text.
     pub fn text(&self) -> &'a [u8]
-        ensures { result.now ≡ self.now }
+        ensures { result.now ≡ self.now.text.now }
     {
         self.text
     }
 
     // Whether a `{` before a place is one of the last that have no partner.
     fn is_open(&self, from: usize) -> bool
-        ensures { IsTrue result → partner brace_open brace_close 0 from (drop from self.now) ≡ none }
+        ensures { IsTrue result → partner brace_open brace_close 0 from (drop from self.now.text.now) ≡ none }
     {
         self.latest == Some(from) || self.older == Some(from)
     }
@@ -109,8 +103,8 @@ impl<'a> Braces<'a> {
     // After a brace before `from` was found to have no partner. The text is read to its end again only where the place that is known is behind, or
     // twice as far on as a new one would be: so braces that are sought from the last to the first do not each cost a pass.
     fn look_further(&mut self, from: usize)
-        requires { from ≤ length self.old }
-        ensures { self.new ≡ self.old }
+        requires { from ≤ length self.old.text.now }
+        ensures { self.new.text.now ≡ self.old.text.now }
     {
         let text = self.text;
         let at = further(text.len(), from);
@@ -123,10 +117,10 @@ impl<'a> Braces<'a> {
     // The partner of a `{` that stands before `from`, sought behind the place that is known, at which so many are open inside it.
     #[tactic(auto, using(crate::proofs::Kept::past_all))]
     fn partner_behind(&mut self, from: usize, depth: usize) -> Option<usize>
-        requires inside { from ≤ length self.old }
+        requires inside { from ≤ length self.old.text.now }
         requires shallow { depth ≤ from }
-        ensures found { place_of result ≡ partner brace_open brace_close depth from (drop from self.old) }
-        ensures same { self.new ≡ self.old }
+        ensures found { place_of result ≡ partner brace_open brace_close depth from (drop from self.old.text.now) }
+        ensures same { self.new.text.now ≡ self.old.text.now }
     {
         let text = self.text;
         match partner_before(text, b'{', b'}', from, text.len(), depth) {
@@ -141,9 +135,9 @@ impl<'a> Braces<'a> {
     // The partner of a `{` that stands before `from`. A text of many that are never closed is not read to its end for each.
     #[tactic(auto, using(crate::proofs::Kept::closed_before, crate::proofs::Kept::deep_open))]
     fn partner(&mut self, from: usize) -> Option<usize>
-        requires { from ≤ length self.old }
-        ensures found { place_of result ≡ partner brace_open brace_close 0 from (drop from self.old) }
-        ensures same { self.new ≡ self.old }
+        requires { from ≤ length self.old.text.now }
+        ensures found { place_of result ≡ partner brace_open brace_close 0 from (drop from self.old.text.now) }
+        ensures same { self.new.text.now ≡ self.old.text.now }
     {
         if self.last_closing <= from {
             return None;
@@ -166,9 +160,9 @@ impl<'a> Braces<'a> {
 
     // The partner of a `{` that stands before `from`. Names that stand next to each other often lead to the same `{`.
     pub fn block_end(&mut self, from: usize) -> Option<usize>
-        requires { from ≤ length self.old }
-        ensures found { place_of result ≡ partner brace_open brace_close 0 from (drop from self.old) }
-        ensures same { self.new ≡ self.old }
+        requires { from ≤ length self.old.text.now }
+        ensures found { place_of result ≡ partner brace_open brace_close 0 from (drop from self.old.text.now) }
+        ensures same { self.new.text.now ≡ self.old.text.now }
     {
         if self.is_open(from) {
             return None;

@@ -7,14 +7,15 @@
 ghost use Rattle.std.specs.Prelude.{◌≡◌, ◌≤◌, length};
 ghost use Rattle.std.proofs.Math.Option.{some};
 ghost use Rattle.flat.specs.Body.{Counted, body_from};
+ghost use Rattle.memo.specs.Memo.{Recalls};
 ghost use Rattle.parts.specs.Told.{body_behind, sought_from};
+ghost use Rattle.signatures.specs.OneProof.{recalls_prop};
 ghost use Rattle.signatures.specs.Signatures.{Begins};
 
 use flat::{Counts, Reached};
 use lists::Lists;
 use memo::Kept;
 use search::Met;
-use std::marker::Model;
 
 mod far;
 mod lists;
@@ -29,29 +30,20 @@ pub struct Signature {
     pub body: usize,
 }
 
-// A text with what is noted of its brackets, the sums of its chunks, and the last long searches for a body. Clauses see the text.
-#[derive(Clone, Drop)]
+// A text with what is noted of its brackets, the sums of its chunks, and the last long searches for a body.
+#[derive(Clone, Copy)]
 pub struct Notes<'a> {
     lists: Lists<'a>,
     kept: Kept,
-}
-
-impl<'a> Model for Notes<'a> {
-    ghost use Rattle.std.specs.Prelude.{List, ℕ};
-
-    ghost Value = { List ℕ };
-
-    ghost use Rattle.memo.specs.Memo.{Recalls};
-
-    ghost view = { λ n. n.lists };
-
-    ghost invariant = { λ n. Recalls n.lists n.kept };
+    ghost recalls: { Recalls lists.text.now kept } by { recalls_prop lists.text.now kept },
 }
 
 impl<'a> Notes<'a> {
+    ghost use Rattle.signatures.specs.Text.{text_of};
+
     // A text of which nothing is noted.
     pub fn new(text: &'a [u8]) -> Notes<'a>
-        ensures { result ≡ text.now }
+        ensures { text_of result ≡ text.now }
     {
         Notes {
             lists: Lists::new(text),
@@ -61,7 +53,7 @@ impl<'a> Notes<'a> {
 
     // Another text, of which nothing is noted.
     pub fn begin(&mut self, text: &'a [u8])
-        ensures { self.new ≡ text.now }
+        ensures { text_of self.new ≡ text.now }
     {
         self.lists.begin(text);
         self.kept.forget(0);
@@ -69,7 +61,7 @@ impl<'a> Notes<'a> {
 
     // Another text, lent for another time, of which nothing is noted. The tables are moved, and not written anew.
     pub fn with_text<'b>(self, text: &'b [u8]) -> Notes<'b>
-        ensures { result ≡ text.now }
+        ensures { text_of result ≡ text.now }
     {
         let Notes {
             lists,
@@ -84,7 +76,7 @@ impl<'a> Notes<'a> {
 
     // The text.
     pub fn text(&self) -> &'a [u8]
-        ensures { result.now ≡ self.now }
+        ensures { result.now ≡ text_of self.now }
     {
         self.lists.text()
     }
@@ -99,29 +91,30 @@ impl<'a> Notes<'a> {
         n: Counts,
     ) -> Option<Signature>
         requires { (from ≤ mark)
-            × (mark ≤ length self.old)
+            × (mark ≤ length (text_of self.old))
             × Counted n mark
-            × (sought_from self.old from 0 ≡ some closed)
-            × (body_behind self.old closed ≡ body_from self.old mark n) }
-        ensures begins { Begins self.old from result }
-        ensures same { self.new ≡ self.old }
+            × (sought_from (text_of self.old) from 0 ≡ some closed)
+            × (body_behind (text_of self.old) closed ≡ body_from (text_of self.old) mark n) }
+        ensures begins { Begins (text_of self.old) from result }
+        ensures same { text_of self.new ≡ text_of self.old }
     {
-        match self.kept.recall(self.lists.sums(), mark, n) {
+        let Notes { lists, kept } = self;
+        match kept.recall(lists.sums(), mark, n) {
             Some(Some(body)) => return Some(Signature { closed, body }),
             Some(None) => return None,
             None => {}
         }
-        let went = self.lists.further_body(from, closed, mark, n);
+        let went = lists.further_body(from, closed, mark, n);
         let sought = went.sought;
-        self.kept.keep(n, sought.map(|r| r.body), went.end);
+        kept.keep(n, sought.map(|r| r.body), went.end);
         sought
     }
 
     // What follows a `(` before `from` whose list ends at `closed`. The body is sought up to a place at which searches are looked up.
     fn near_body(&mut self, from: usize, closed: usize) -> Option<Signature>
-        requires { sought_from self.old from 0 ≡ some closed }
-        ensures begins { Begins self.old from result }
-        ensures same { self.new ≡ self.old }
+        requires { sought_from (text_of self.old) from 0 ≡ some closed }
+        ensures begins { Begins (text_of self.old) from result }
+        ensures same { text_of self.new ≡ text_of self.old }
     {
         let text = self.text();
         let behind = closed + 1;
@@ -136,9 +129,9 @@ impl<'a> Notes<'a> {
 
     // What follows a `(` that stands before `from`, sought nearby first.
     fn sought_after(&mut self, from: usize) -> Option<Signature>
-        requires { from ≤ length self.old }
-        ensures begins { Begins self.old from result }
-        ensures same { self.new ≡ self.old }
+        requires { from ≤ length (text_of self.old) }
+        ensures begins { Begins (text_of self.old) from result }
+        ensures same { text_of self.new ≡ text_of self.old }
     {
         let text = self.text();
         let near = (from + NEAR).min(text.len());
@@ -152,9 +145,9 @@ impl<'a> Notes<'a> {
     // What follows a `(` that stands before `from`: the end of its list and the brace of its body, or not both. Where that is noted, nothing is
     // sought, and the use is counted.
     pub fn brackets_after(&mut self, from: usize) -> Option<Signature>
-        requires { from ≤ length self.old }
-        ensures begins { Begins self.old from result }
-        ensures same { self.new ≡ self.old }
+        requires { from ≤ length (text_of self.old) }
+        ensures begins { Begins (text_of self.old) from result }
+        ensures same { text_of self.new ≡ text_of self.old }
     {
         match self.lists.noted(from) {
             Some(sought) => sought,

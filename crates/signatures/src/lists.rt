@@ -3,35 +3,25 @@
 ghost use Rattle.std.specs.Prelude.{◌≡◌, ◌≤◌, ◌<◌, length, MatchOption};
 ghost use Rattle.std.proofs.Math.Option.{some};
 ghost use Rattle.flat.specs.Body.{Counted, body_from};
+ghost use Rattle.chunks.specs.Table.{Summed};
 ghost use Rattle.parts.specs.Told.{NoteTells, body_behind, sought_from};
+ghost use Rattle.windows.specs.Window.{Noted};
+ghost use Rattle.signatures.specs.OneProof.{noted_prop};
 ghost use Rattle.signatures.specs.Signatures.{Begins};
 
 use super::{NEAR, Signature, far};
 use chunks::{Table, TextSums};
 use flat::{Counts, Reached};
-use std::marker::Model;
 use windows::{Note, Window};
 
-// A text with what is noted of its brackets and the sums of its chunks. Clauses see the text.
-#[derive(Clone, Drop)]
+// A text with what is noted of its brackets and the sums of its chunks.
+#[derive(Clone, Copy)]
 pub struct Lists<'a> {
-    text: &'a [u8],
+    pub text: &'a [u8],
     window: Window,
     sums: Table,
-}
-
-impl<'a> Model for Lists<'a> {
-    ghost use Rattle.std.specs.Prelude.{List, ℕ};
-
-    ghost Value = { List ℕ };
-
-    ghost use Rattle.chunks.specs.Table.{Summed};
-    ghost use Rattle.parts.specs.Told.{NoteTells};
-    ghost use Rattle.windows.specs.Window.{Noted};
-
-    ghost view = { λ l. l.text.now };
-
-    ghost invariant = { λ l. Noted (NoteTells l.text.now) l.window × Summed l.text.now l.sums };
+    ghost noted: { Noted (NoteTells text.now) window } by { noted_prop text.now window },
+    ghost summed: { Summed text.now sums },
 }
 
 // What follows a `(`, and how far the search for the body went, at most. That decides only how long later searches take.
@@ -44,7 +34,7 @@ pub struct Went {
 impl<'a> Lists<'a> {
     // A text of which nothing is noted.
     pub fn new(text: &'a [u8]) -> Lists<'a>
-        ensures { result ≡ text.now }
+        ensures { result.text.now ≡ text.now }
     {
         Lists {
             text,
@@ -55,7 +45,7 @@ impl<'a> Lists<'a> {
 
     // Another text, of which nothing is noted.
     pub fn begin(&mut self, text: &'a [u8])
-        ensures { self.new ≡ text.now }
+        ensures { self.new.text.now ≡ text.now }
     {
         self.text = text;
         self.window.clear();
@@ -64,7 +54,7 @@ impl<'a> Lists<'a> {
 
     // Another text, lent for another time, of which nothing is noted. The tables are moved, and not written anew.
     pub fn with_text<'b>(self, text: &'b [u8]) -> Lists<'b>
-        ensures { result ≡ text.now }
+        ensures { result.text.now ≡ text.now }
     {
         let Lists {
             window: mut notes,
@@ -82,14 +72,14 @@ impl<'a> Lists<'a> {
 
     // The text.
     pub fn text(&self) -> &'a [u8]
-        ensures { result.now ≡ self.now }
+        ensures { result.now ≡ self.now.text.now }
     {
         self.text
     }
 
     // The text with the sums of its chunks.
     pub fn sums(&self) -> TextSums<'_>
-        ensures { result.text.now ≡ self.now }
+        ensures { result.text.now ≡ self.now.text.now }
     {
         TextSums {
             text: self.text,
@@ -99,15 +89,15 @@ impl<'a> Lists<'a> {
 
     // What is noted of the bracket before a place.
     fn note(&self, from: usize) -> Note
-        ensures { NoteTells self.now from result }
+        ensures { NoteTells self.now.text.now from result }
     {
         self.window.noted_at(from)
     }
 
     // What follows a `(` before `from`, where all of it is noted. The use is counted.
     pub fn noted(&mut self, from: usize) -> Option<Option<Signature>>
-        ensures told { MatchOption result (Unit {0}) (Begins self.old from) }
-        ensures same { self.new ≡ self.old }
+        ensures told { MatchOption result (Unit {0}) (Begins self.old.text.now from) }
+        ensures same { self.new.text.now ≡ self.old.text.now }
     {
         let sought = match self.note(from) {
             Note::Nothing | Note::Closed(_) => return None,
@@ -124,8 +114,8 @@ impl<'a> Lists<'a> {
     // Counts a search from a place that goes far. Brackets are noted from the place on where many searches near it do, or where what is noted of
     // the part before it was of use often.
     fn look_up(&mut self, from: usize)
-        requires { from < length self.old }
-        ensures { self.new ≡ self.old }
+        requires { from < length self.old.text.now }
+        ensures { self.new.text.now ≡ self.old.text.now }
     {
         self.sums.count_far(self.text);
         if !self.window.count_search(from) {
@@ -141,11 +131,11 @@ impl<'a> Lists<'a> {
     // What follows a `(` before `from`. Its list is not closed up to the place `near`, at which so many are open inside it.
     pub fn noted_list(&mut self, from: usize, near: usize, depth: usize) -> Option<Signature>
         requires { (from ≤ near)
-            × (near ≤ length self.old)
+            × (near ≤ length self.old.text.now)
             × (depth ≤ near)
-            × (sought_from self.old from 0 ≡ sought_from self.old near depth) }
-        ensures begins { Begins self.old from result }
-        ensures same { self.new ≡ self.old }
+            × (sought_from self.old.text.now from 0 ≡ sought_from self.old.text.now near depth) }
+        ensures begins { Begins self.old.text.now from result }
+        ensures same { self.new.text.now ≡ self.old.text.now }
     {
         if near == self.text.len() {
             return None;
@@ -171,12 +161,12 @@ impl<'a> Lists<'a> {
         n: Counts,
     ) -> Option<Signature>
         requires { (from ≤ near)
-            × (near ≤ length self.old)
+            × (near ≤ length self.old.text.now)
             × Counted n near
-            × (sought_from self.old from 0 ≡ some closed)
-            × (body_behind self.old closed ≡ body_from self.old near n) }
-        ensures begins { Begins self.old from result }
-        ensures same { self.new ≡ self.old }
+            × (sought_from self.old.text.now from 0 ≡ some closed)
+            × (body_behind self.old.text.now closed ≡ body_from self.old.text.now near n) }
+        ensures begins { Begins self.old.text.now from result }
+        ensures same { self.new.text.now ≡ self.old.text.now }
     {
         if near == self.text.len() {
             return None;
@@ -196,12 +186,12 @@ impl<'a> Lists<'a> {
     // nearby first.
     pub fn further_body(&mut self, from: usize, closed: usize, at: usize, n: Counts) -> Went
         requires { (from ≤ at)
-            × (at ≤ length self.old)
+            × (at ≤ length self.old.text.now)
             × Counted n at
-            × (sought_from self.old from 0 ≡ some closed)
-            × (body_behind self.old closed ≡ body_from self.old at n) }
-        ensures begins { Begins self.old from result.sought }
-        ensures same { self.new ≡ self.old }
+            × (sought_from self.old.text.now from 0 ≡ some closed)
+            × (body_behind self.old.text.now closed ≡ body_from self.old.text.now at n) }
+        ensures begins { Begins self.old.text.now from result.sought }
+        ensures same { self.new.text.now ≡ self.old.text.now }
     {
         let text = self.text;
         let near = (at + NEAR).min(text.len());

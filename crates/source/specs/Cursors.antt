@@ -1,6 +1,7 @@
 -- What a cursor stands for, and what the steps of the search answer.
 use Rattle.std.specs.Prelude.{ℕ, ◌+◌, ◌-◌, ◌≤◌, ◌<◌, ◌≡◌, ◌≢◌, List, [], ◌∷◌, length, take, drop, get_or, Option, None, Some, Result, Ok, Err}
 use Rattle.std.proofs.Math.Option.{Option as MathOption, none, some}
+use Rattle.std.proofs.Props.{props}
 use Rattle.text_rules.specs.Bytes.{◌or_else◌}
 use Rattle.text_rules.specs.Classes.{brace_close, brace_open, hash}
 use Rattle.text_rules.specs.Search.{part}
@@ -60,6 +61,18 @@ pub record Ready (s : List ℕ) (c : State) : Type 0 where
   pub line-most : c.line ≤ c.at + 1
   pub no_span : Spanless s c.at c.spanless
   pub no_function : Barren s c.barren_from c.barren_to
+
+spanless_prop : (s : List ℕ) (from to : ℕ) → IsProp (Spanless s from to)
+unfolding Spanless
+spanless_prop s from to = hlevel props
+
+barren_prop : (s : List ℕ) (from to : ℕ) → IsProp (Barren s from to)
+unfolding Barren
+barren_prop s from to = hlevel props
+
+-- it has one proof at most
+pub ready_prop : (s : List ℕ) (c : State) → IsProp (Ready s c)
+ready_prop s c = hlevel (props, spanless_prop, barren_prop)
 
 -- a function is found, and the cursor behind it has the others. The function's numbers are at most the text's length
 pub record Yields (s : List ℕ) (c : State) (f : Found) (d : State) : Type 0 where

@@ -10,16 +10,16 @@ ghost use Rattle.text_rules.specs.Classes.{lf};
 ghost use Rattle.text_rules.specs.Search.{count_after};
 ghost use Rattle.source_rules.specs.Finding.{function_at};
 ghost use Rattle.source_rules.specs.TextScan.{functions};
-ghost use Rattle.source.specs.Cursors.{Closed, FoundAt, Measures, Quieter, Ready, SpanAt, Stepped, Turned, moved_to, remaining, sought_at, with_name};
+ghost use Rattle.source.specs.Bytes.{bytes_of};
+ghost use Rattle.source.specs.Cursors.{Closed, FoundAt, Measures, Quieter, Ready, SpanAt, Stepped, Turned, moved_to, ready_prop, remaining, sought_at, state, with_name};
 
 use passing::Spot;
-use std::marker::Model;
 use text::{Brackets, Text};
 
 mod text;
 
-// Where the search for functions stands in a text. Clauses see the numbers, and the text as its bytes.
-#[derive(Clone, Drop)]
+// Where the search for functions stands in a text.
+#[derive(Clone, Copy)]
 pub struct Cursor<'a> {
     // the text, and what was learnt of it
     text: Text<'a>,
@@ -34,18 +34,7 @@ pub struct Cursor<'a> {
     spanless: usize,
     barren_from: usize,
     barren_to: usize,
-}
-
-impl<'a> Model for Cursor<'a> {
-    ghost use Rattle.source.specs.State.{State};
-
-    ghost Value = { State };
-
-    ghost use Rattle.source.specs.Cursors.{Ready, state};
-
-    ghost view = { λ c. state c.text c.at c.line c.span_end c.resume c.spanless c.barren_from c.barren_to };
-
-    ghost invariant = { λ c. Ready c.text (state c.text c.at c.line c.span_end c.resume c.spanless c.barren_from c.barren_to) };
+    ghost ready: { Ready (bytes_of text) (state (bytes_of text) at line span_end resume spanless barren_from barren_to) } by { ready_prop (bytes_of text) (state (bytes_of text) at line span_end resume spanless barren_from barren_to) },
 }
 
 // A function: where its name stands in the text, and what is measured.
@@ -91,11 +80,13 @@ fn quiet_end(s: &[u8], from: Spot, span_end: usize, resume: usize) -> Spot
 }
 
 impl<'a> Cursor<'a> {
+    ghost use Rattle.source.specs.View.{state_of};
+
     // The start of a text.
     pub fn new(bytes: &'a [u8]) -> Cursor<'a>
-        ensures text { result.text ≡ bytes.now }
-        ensures all { remaining bytes.now result ≡ functions bytes.now }
-        ensures ready { Ready bytes.now result }
+        ensures text { (state_of result).text ≡ bytes.now }
+        ensures all { remaining bytes.now (state_of result) ≡ functions bytes.now }
+        ensures ready { Ready bytes.now (state_of result) }
     {
         Cursor {
             text: Text::new(bytes),
@@ -112,9 +103,9 @@ impl<'a> Cursor<'a> {
     // The start of another text.
     // Kept: `new` makes the value, and this sets its fields one by one, since what was learnt of a text is large and changed where it stands.
     pub fn begin(&mut self, bytes: &'a [u8])
-        ensures text { self.new.text ≡ bytes.now }
-        ensures all { remaining bytes.now self.new ≡ functions bytes.now }
-        ensures ready { Ready bytes.now self.new }
+        ensures text { (state_of self.new).text ≡ bytes.now }
+        ensures all { remaining bytes.now (state_of self.new) ≡ functions bytes.now }
+        ensures ready { Ready bytes.now (state_of self.new) }
     {
         self.text.begin(bytes);
         self.at = 0;
@@ -128,9 +119,9 @@ impl<'a> Cursor<'a> {
 
     // The start of another text, lent for another time. The notes are moved, and not written anew.
     pub fn with_text<'b>(self, bytes: &'b [u8]) -> Cursor<'b>
-        ensures text { result.text ≡ bytes.now }
-        ensures all { remaining bytes.now result ≡ functions bytes.now }
-        ensures ready { Ready bytes.now result }
+        ensures text { (state_of result).text ≡ bytes.now }
+        ensures all { remaining bytes.now (state_of result) ≡ functions bytes.now }
+        ensures ready { Ready bytes.now (state_of result) }
     {
         Cursor {
             text: self.text.with_text(bytes),
@@ -146,23 +137,23 @@ impl<'a> Cursor<'a> {
 
     // The place of the byte to look at next.
     pub fn at(&self) -> usize
-        ensures { result ≡ self.now.at }
+        ensures { result ≡ (state_of self.now).at }
     {
         self.at
     }
 
     // Its line.
     pub fn line(&self) -> usize
-        ensures { result ≡ self.now.line }
+        ensures { result ≡ (state_of self.now).line }
     {
         self.line
     }
 
     // The function whose `fn` stands at the next byte.
     fn measure(&mut self) -> Option<Found>
-        requires { self.old.at + 2 ≤ length self.old.text }
-        ensures measured { Measures self.old.text self.old result self.new }
-        ensures others { self.new ≡ with_name self.old self.new.resume self.new.barren_from self.new.barren_to }
+        requires { self.old.at + 2 ≤ length (bytes_of self.old.text) }
+        ensures measured { Measures (bytes_of self.old.text) (state_of self.old) result (state_of self.new) }
+        ensures others { state_of self.new ≡ with_name (state_of self.old) self.new.resume self.new.barren_from self.new.barren_to }
     {
         let s = self.text.bytes();
         let from = search::space_end(s, self.at + 2);
@@ -192,9 +183,9 @@ impl<'a> Cursor<'a> {
 
     // The test span at the next byte: the one that is open, or one that begins there.
     fn open_span(&mut self)
-        requires { self.old.at < length self.old.text }
-        ensures span { SpanAt self.old.text self.old self.new }
-        ensures others { self.new ≡ record self.old { span_end = self.new.span_end; spanless = self.new.spanless } }
+        requires { self.old.at < length (bytes_of self.old.text) }
+        ensures span { SpanAt (bytes_of self.old.text) (state_of self.old) (state_of self.new) }
+        ensures others { state_of self.new ≡ record (state_of self.old) { span_end = self.new.span_end; spanless = self.new.spanless } }
     {
         let s = self.text.bytes();
         let at = self.at;
@@ -224,10 +215,10 @@ impl<'a> Cursor<'a> {
     // Whether a function is sought at the next byte: at a word `fn` outside test spans and behind the last body.
     #[tactic(auto, using(crate::proofs::Words::at_byte))]
     fn is_sought(&self) -> bool
-        requires { self.now.at < length self.now.text }
-        ensures not_found { result ≡ false → sought_at self.now.text self.now ≡ none }
-        ensures found { result ≡ true → sought_at self.now.text self.now ≡ function_at (drop self.now.at self.now.text) }
-        ensures inside { result ≡ true → self.now.at + 2 ≤ length self.now.text }
+        requires { self.now.at < length (bytes_of self.now.text) }
+        ensures not_found { result ≡ false → sought_at (bytes_of self.now.text) (state_of self.now) ≡ none }
+        ensures found { result ≡ true → sought_at (bytes_of self.now.text) (state_of self.now) ≡ function_at (drop self.now.at (bytes_of self.now.text)) }
+        ensures inside { result ≡ true → self.now.at + 2 ≤ length (bytes_of self.now.text) }
     {
         let s = self.text.bytes();
         let at = self.at;
@@ -236,9 +227,9 @@ impl<'a> Cursor<'a> {
 
     // One byte further.
     fn step(&mut self)
-        requires { self.old.at < length self.old.text }
-        ensures ready { Ready self.new.text self.new }
-        ensures moved { self.new ≡ moved_to self.old (self.old.at + 1) (count_after lf (get_or self.old.text self.old.at 0) self.old.line) }
+        requires { self.old.at < length (bytes_of self.old.text) }
+        ensures ready { Ready (bytes_of self.new.text) (state_of self.new) }
+        ensures moved { state_of self.new ≡ moved_to (state_of self.old) (self.old.at + 1) (count_after lf (get_or (bytes_of self.old.text) self.old.at 0) self.old.line) }
     {
         let s = self.text.bytes();
         self.line = flat::count_after(b'\n', s[self.at], self.line);
@@ -247,8 +238,8 @@ impl<'a> Cursor<'a> {
 
     // Past the next byte, with the function that begins there.
     fn turn_at(&mut self) -> Option<Found>
-        requires { self.old.at < length self.old.text }
-        ensures { Turned self.old.text self.old result self.new }
+        requires { self.old.at < length (bytes_of self.old.text) }
+        ensures { Turned (bytes_of self.old.text) (state_of self.old) result (state_of self.new) }
     {
         self.open_span();
         if !self.is_sought() {
@@ -262,12 +253,12 @@ impl<'a> Cursor<'a> {
 
     // Past bytes at which nothing can begin. Whether the text goes on there.
     fn pass_quiet(&mut self) -> bool
-        ensures passed { (self.new.text ≡ self.old.text)
-            × (remaining self.old.text self.old ≡ remaining self.old.text self.new)
+        ensures passed { (bytes_of self.new.text ≡ bytes_of self.old.text)
+            × (remaining (bytes_of self.old.text) (state_of self.old) ≡ remaining (bytes_of self.old.text) (state_of self.new))
             × (self.old.at ≤ self.new.at) }
-        ensures ready { Ready self.new.text self.new }
-        ensures inside { result ≡ true → self.new.at < length self.new.text }
-        ensures end { result ≡ false → length self.new.text ≤ self.new.at }
+        ensures ready { Ready (bytes_of self.new.text) (state_of self.new) }
+        ensures inside { result ≡ true → self.new.at < length (bytes_of self.new.text) }
+        ensures end { result ≡ false → length (bytes_of self.new.text) ≤ self.new.at }
     {
         let s = self.text.bytes();
         let from = Spot {
@@ -282,11 +273,13 @@ impl<'a> Cursor<'a> {
 }
 
 impl<'a> Iterator for Cursor<'a> {
+    ghost use Rattle.source.specs.View.{state_of};
+
     type Item = Found;
 
-    ghost next_gives = { λ c found d. Stepped c.text c found d };
+    ghost next_gives = { λ c found d. Stepped (bytes_of c.text) (state_of c) found (state_of d) };
 
-    ghost remaining = { item_count (λ c. remaining c.text c) };
+    ghost remaining = { item_count (λ c. remaining (bytes_of c.text) (state_of c)) };
 
     // The next function of the text.
     fn next(&mut self) -> Option<Found> {

@@ -7,12 +7,12 @@ ghost use Rattle.source_rules.specs.Brackets.{partner};
 ghost use Rattle.source_rules.specs.Finding.{function_from};
 ghost use Rattle.search.specs.Place.{place_of};
 ghost use Rattle.signatures.specs.Signatures.{Begins};
+ghost use Rattle.signatures.specs.Text.{text_of};
 ghost use Rattle.source.specs.Cursors.{Blocked, Signed};
 
 use measures::{Body, Walked};
 use search::Braces;
 use signatures::{Notes, Signature};
-use std::marker::Model;
 
 // The brackets of a function after its name, those of its list and those of its body, and what is measured of the body.
 #[derive(Clone, Copy)]
@@ -32,32 +32,25 @@ fn is_closed_so_far(braces: &Braces, at: usize) -> bool {
 // Whether no `{` stands from a place on, or no `}`: no name that ends there is a function's.
 #[tactic(auto, using(crate::proofs::Behind::behind_opening, crate::proofs::Behind::behind_closing))]
 fn is_behind_braces(braces: &Braces, to: usize) -> bool
-    ensures { IsTrue result → (from x : ℕ) → to ≤ x → function_from from x braces.now ≡ none }
+    ensures { IsTrue result → (from x : ℕ) → to ≤ x → function_from from x braces.now.text.now ≡ none }
 {
     braces.last_opening <= to || braces.last_closing <= to
 }
 
-// A text, what was learnt of its braces, and what is noted of its brackets. Clauses see the text.
-#[derive(Clone, Drop)]
+// A text, what was learnt of its braces, and what is noted of its brackets.
+#[derive(Clone, Copy)]
 pub struct Text<'a> {
     braces: Braces<'a>,
     notes: Notes<'a>,
-}
-
-impl<'a> Model for Text<'a> {
-    ghost use Rattle.std.specs.Prelude.{◌≡◌, List, ℕ};
-
-    ghost Value = { List ℕ };
-
-    ghost view = { λ t. t.braces };
-
-    ghost invariant = { λ t. t.notes ≡ t.braces };
+    ghost same: { text_of notes ≡ braces.text.now },
 }
 
 impl<'a> Text<'a> {
+    ghost use Rattle.source.specs.Bytes.{bytes_of};
+
     // A text of which nothing was learnt.
     pub fn new(bytes: &'a [u8]) -> Text<'a>
-        ensures { result ≡ bytes.now }
+        ensures { bytes_of result ≡ bytes.now }
     {
         Text {
             braces: Braces::nothing_learnt(bytes),
@@ -67,7 +60,7 @@ impl<'a> Text<'a> {
 
     // Another text, of which nothing was learnt.
     pub fn begin(&mut self, bytes: &'a [u8])
-        ensures { self.new ≡ bytes.now }
+        ensures { bytes_of self.new ≡ bytes.now }
     {
         self.braces = Braces::nothing_learnt(bytes);
         self.notes.begin(bytes);
@@ -75,7 +68,7 @@ impl<'a> Text<'a> {
 
     // Another text, lent for another time, of which nothing was learnt. The notes are moved, and not written anew.
     pub fn with_text<'b>(self, bytes: &'b [u8]) -> Text<'b>
-        ensures { result ≡ bytes.now }
+        ensures { bytes_of result ≡ bytes.now }
     {
         Text {
             braces: Braces::nothing_learnt(bytes),
@@ -85,25 +78,25 @@ impl<'a> Text<'a> {
 
     // Its bytes.
     pub fn bytes(&self) -> &'a [u8]
-        ensures { result.now ≡ self.now }
+        ensures { result.now ≡ bytes_of self.now }
     {
         self.braces.text()
     }
 
     // The partner of a `{` that stands before `from`.
     pub fn block_end(&mut self, from: usize) -> Option<usize>
-        requires { from ≤ length self.old }
-        ensures found { place_of result ≡ partner brace_open brace_close 0 from (drop from self.old) }
-        ensures same { self.new ≡ self.old }
+        requires { from ≤ length (bytes_of self.old) }
+        ensures found { place_of result ≡ partner brace_open brace_close 0 from (drop from (bytes_of self.old)) }
+        ensures same { bytes_of self.new ≡ bytes_of self.old }
     {
         self.braces.block_end(from)
     }
 
     // The body whose opening brace stands at a place, if it is ever closed. Its end is sought before it is measured.
     fn block_found(&mut self, body: usize) -> Option<Body>
-        requires { body < length self.old }
-        ensures block { Blocked self.old body result }
-        ensures same { self.new ≡ self.old }
+        requires { body < length (bytes_of self.old) }
+        ensures block { Blocked (bytes_of self.old) body result }
+        ensures same { bytes_of self.new ≡ bytes_of self.old }
     {
         let s = self.bytes();
         let end = self.block_end(body + 1)?;
@@ -117,10 +110,10 @@ impl<'a> Text<'a> {
     // The body whose opening brace stands at a place, if it is ever closed. As long as every brace has a partner, it is measured on the way to its
     // end.
     fn block_at(&mut self, body: usize) -> Option<Body>
-        requires inside { body < length self.old }
-        requires brace { get_or self.old body 0 ≡ brace_open }
-        ensures block { Blocked self.old body result }
-        ensures same { self.new ≡ self.old }
+        requires inside { body < length (bytes_of self.old) }
+        requires brace { get_or (bytes_of self.old) body 0 ≡ brace_open }
+        ensures block { Blocked (bytes_of self.old) body result }
+        ensures same { bytes_of self.new ≡ bytes_of self.old }
     {
         if is_closed_so_far(&self.braces, body) {
             let s = self.bytes();
@@ -136,9 +129,9 @@ impl<'a> Text<'a> {
 
     // What follows a `(` that stands before `from`.
     fn brackets_after(&mut self, from: usize) -> Option<Signature>
-        requires { from ≤ length self.old }
-        ensures begins { Begins self.old from result }
-        ensures same { self.new ≡ self.old }
+        requires { from ≤ length (bytes_of self.old) }
+        ensures begins { Begins (bytes_of self.old) from result }
+        ensures same { bytes_of self.new ≡ bytes_of self.old }
     {
         self.notes.brackets_after(from)
     }
@@ -146,8 +139,8 @@ impl<'a> Text<'a> {
     // The brackets after a name that ends at `to`, each of them sought. Where not all four are there, they are not there either after any other
     // name that ends from there up to the place that is told.
     fn signature_sought(&mut self, to: usize) -> Result<Brackets, usize>
-        ensures signed { Signed self.old to result }
-        ensures same { self.new ≡ self.old }
+        ensures signed { Signed (bytes_of self.old) to result }
+        ensures same { bytes_of self.new ≡ bytes_of self.old }
     {
         let s = self.bytes();
         let Some(opened) = search::find(s, b'(', to) else {
@@ -173,8 +166,8 @@ impl<'a> Text<'a> {
     // The brackets after a name that ends at `to`, or up to where none is a function's. Behind the last `{` or the last `}` no name is, and nothing
     // is sought.
     pub fn signature_at(&mut self, to: usize) -> Result<Brackets, usize>
-        ensures signed { Signed self.old to result }
-        ensures same { self.new ≡ self.old }
+        ensures signed { Signed (bytes_of self.old) to result }
+        ensures same { bytes_of self.new ≡ bytes_of self.old }
     {
         if is_behind_braces(&self.braces, to) {
             return Err(self.bytes().len());

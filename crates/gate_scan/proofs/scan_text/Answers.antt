@@ -5,6 +5,7 @@ use Rattle.gate_rules.proofs.RecordLaws.{put_record_length}
 use Rattle.gate_rules.specs.Records.{record_bytes}
 use Rattle.source_rules.proofs.TextScanLaws.{count_fits}
 use Rattle.source.specs.Cursors.{Ended, Yields, remaining}
+use Rattle.source.specs.View.{state_of}
 use Rattle.gate_scan.specs.Told.{count_next, records-end, records-next, records_for, told, told-wide}
 use Rattle.gate_scan.proofs.scan_text.Goals as goal
 
@@ -13,8 +14,9 @@ loop-f-preserved c =
     let s = c.args.s.now in
     let l = c.loop-f in
     let f = c.in-Some.f in
-    let d = c.next.new.self.now in
-    let y : Yields s l.f-iterator.now f d = subst (λ t. Yields t l.f-iterator.now f d) l.invariant.text c.in-Some.ensures.steps in
+    let b = state_of l.f-iterator.now in
+    let d = state_of c.next.new.self.now in
+    let y : Yields s b f d = subst (λ t. Yields t b f d) l.invariant.text c.in-Some.ensures.steps in
     let number = c.args.number in
     let place = c.args.place in
     let e = c.put_numbered.ensures ∙ ap (λ r. put_record l.n (record_bytes r) l.lent) c.record_of.ensures in
@@ -23,8 +25,8 @@ loop-f-preserved c =
       finite = tt;
       text = y.text;
       long = ap length e ∙ put_record_length l.n (record_bytes (told number place f)) l.lent (told-wide number place f) ∙ l.invariant.long;
-      counted = omega (arith, l.invariant.counted, count_next s l.f-iterator.now f d y number place);
-      put = ap (put_records (l.n + 1) (records_for number place (remaining s d))) e ∙ sym (records-next s l.f-iterator.now f d y number place l.n l.lent) ∙ l.invariant.put;
+      counted = omega (arith, l.invariant.counted, count_next s b f d y number place);
+      put = ap (put_records (l.n + 1) (records_for number place (remaining s d))) e ∙ sym (records-next s b f d y number place l.n l.lent) ∙ l.invariant.put;
     }
 
 pub overflow_add-n : goal.overflow_add-n
@@ -36,8 +38,9 @@ pub returns : goal.returns
 returns c =
     let s = c.args.s.now in
     let l = c.loop-f in
-    let none : remaining s l.f-iterator.now ≡ [] = (subst (λ t. Ended t l.f-iterator.now c.next.new.self.now) l.invariant.text c.in-None.ensures.steps).all_found in
-    let zero : length (remaining s l.f-iterator.now) ≡ 0 = ap length none in (
+    let b = state_of l.f-iterator.now in
+    let none : remaining s b ≡ [] = (subst (λ t. Ended t b (state_of c.next.new.self.now)) l.invariant.text c.in-None.ensures.steps).all_found in
+    let zero : length (remaining s b) ≡ 0 = ap length none in (
       omega (arith, l.invariant.counted),
-      sym (records-end s l.f-iterator.now none c.args.number c.args.place l.n l.lent) ∙ l.invariant.put,
+      sym (records-end s b none c.args.number c.args.place l.n l.lent) ∙ l.invariant.put,
     )

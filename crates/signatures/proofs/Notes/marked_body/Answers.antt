@@ -9,4 +9,4 @@ pub returns-in-Some-None-clause-begins : goal.returns-in-Some-None-clause-begins
 returns-in-Some-None-clause-begins c =
     let a = c.args in
     let nowhere = rw c.in-Some-None.field-0-is at c.in-Some-None.ensures in
-    no-brace a.closed c.requires.3 (c.requires.4 ∙ subst (λ s. body_from s a.mark a.n ≡ none) (c.sums.ensures ∙ c.self.view_is) nowhere.0)
+    no-brace a.closed c.requires.3 (c.requires.4 ∙ subst (λ s. body_from s a.mark a.n ≡ none) c.sums.ensures nowhere.0)

@@ -6,7 +6,7 @@ use Rattle.source.specs.Steps.{ready_start}
 use Rattle.source.proofs.Cursor.begin.Goals as goal
 
 pub invariant_of-self : goal.invariant_of-self
-invariant_of-self c = ready_start _ _
+invariant_of-self c = record { ready = ready_start _ _ }
 
 pub returns-clause-all : goal.returns-clause-all
 unfolding remaining remaining_at functions

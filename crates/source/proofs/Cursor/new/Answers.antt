@@ -6,7 +6,7 @@ use Rattle.source.specs.Steps.{ready_start}
 use Rattle.source.proofs.Cursor.new.Goals as goal
 
 pub invariant_of-result : goal.invariant_of-result
-invariant_of-result c = ready_start _ _
+invariant_of-result c = record { ready = ready_start _ _ }
 
 pub returns-clause-all : goal.returns-clause-all
 unfolding remaining remaining_at functions

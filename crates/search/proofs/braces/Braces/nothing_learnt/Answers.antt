@@ -11,9 +11,9 @@ invariant_of-result c =
     let closing = none_behind s brace_close c.behind_last-last_closing.result (λ z. omega arith) c.behind_last-last_closing.ensures.none_behind in
     record {
       no_opening = none_behind s brace_open c.behind_last.result (λ z. omega arith) c.behind_last.ensures.none_behind;
-      no-closing = closing;
-      none-there = no-partner brace_open brace_close s _ _ 0 closing (omega arith);
+      no_closing = closing;
+      none_there = no-partner brace_open brace_close s _ _ 0 closing (omega arith);
       inside = c.behind_last-last_closing.ensures.inside;
-      latest-none = tt;
+      latest_none = tt;
       older_none = tt;
     }

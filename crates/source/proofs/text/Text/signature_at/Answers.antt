@@ -1,8 +1,5 @@
 -- Behind the last brace of either kind no name is a function's.
-use Rattle.std.proofs.Common.{arith, subst}
-use Rattle.std.specs.Prelude.{◌≡◌}
-use Rattle.std.proofs.Math.Option.{none}
-use Rattle.source_rules.specs.Finding.{function_from}
+use Rattle.std.proofs.Common.{arith}
 use Rattle.source.specs.Cursors.{Barren}
 use Rattle.source.proofs.text.Text.signature_at.Goals as goal
 
@@ -11,6 +8,6 @@ unfolding Barren
 returns-then-is_behind_braces-clause-signed c =
     let gone = c.is_behind_braces.ensures c.if-is_behind_braces.true in
     record {
-      none_here = λ from. subst (λ s. function_from from c.args.to s ≡ none) c.self.view_is (gone from c.args.to (omega arith));
-      no_function = λ from x h k. subst (λ s. function_from from x s ≡ none) c.self.view_is (gone from x h);
+      none_here = λ from. gone from c.args.to (omega arith);
+      no_function = λ from x h k. gone from x h;
     }

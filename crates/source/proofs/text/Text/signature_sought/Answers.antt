@@ -11,6 +11,7 @@ use Rattle.search.specs.Place.{place_of}
 use Rattle.parts.specs.Told.{NoBody, no-brace, no_end}
 use Rattle.signatures.specs.Signatures.{Begins}
 use Rattle.signatures.specs.declared.Signature.{Signature}
+use Rattle.source.specs.Bytes.{bytes_of}
 use Rattle.source.specs.Cursors.{Barren, Blocked}
 use Rattle.source.proofs.text.Text.signature_sought.Goals as goal
 
@@ -36,14 +37,14 @@ begins s t e from r h p i = subst (λ u. Begins u from p) e (subst (Begins t fro
 pub returns-in_default-clause-signed : goal.returns-in_default-clause-signed
 unfolding Barren
 returns-in_default-clause-signed c =
-    let s = c.args.self.now in
+    let s = bytes_of c.args.self.now in
     let to = c.args.to in
     let e : find round_open to (drop to s) ≡ none = subst (λ u. find round_open to (drop to u) ≡ none) c.bytes-s.ensures (sym c.find.ensures ∙ ap place_of c.in_default.is) in
     record { none_here = λ from. no_list s to e from to (omega arith); no_function = λ from x h k. no_list s to e from x h }
 
 pub overflow_add-inside : goal.overflow_add-inside
 overflow_add-inside c =
-    let s = c.args.self.now in
+    let s = bytes_of c.args.self.now in
     let to = c.args.to in
     let opened = c.in-Some.opened in
     let e₁ : find round_open to (drop to s) ≡ some opened = there s _ to c.bytes-s.ensures _ c.find.ensures opened c.in-Some.is in
@@ -51,7 +52,7 @@ overflow_add-inside c =
 
 pub brackets_after-requires : goal.brackets_after-requires
 brackets_after-requires c =
-    let s = c.args.self.now in
+    let s = bytes_of c.args.self.now in
     let to = c.args.to in
     let opened = c.in-Some.opened in
     let e₁ : find round_open to (drop to s) ≡ some opened = there s _ to c.bytes-s.ensures _ c.find.ensures opened c.in-Some.is in
@@ -60,7 +61,7 @@ brackets_after-requires c =
 pub returns-in_default-brackets_after-clause-signed : goal.returns-in_default-brackets_after-clause-signed
 unfolding Barren
 returns-in_default-brackets_after-clause-signed c =
-    let s = c.args.self.now in
+    let s = bytes_of c.args.self.now in
     let to = c.args.to in
     let opened = c.in-Some.opened in
     let e₁ : find round_open to (drop to s) ≡ some opened = there s _ to c.bytes-s.ensures _ c.find.ensures opened c.in-Some.is in
@@ -69,7 +70,7 @@ returns-in_default-brackets_after-clause-signed c =
 
 pub block_at-block-requires-clause-inside : goal.block_at-block-requires-clause-inside
 block_at-block-requires-clause-inside c =
-    let s = c.args.self.now in
+    let s = bytes_of c.args.self.now in
     let to = c.args.to in
     let opened = c.in-Some.opened in
     let e₁ : find round_open to (drop to s) ≡ some opened = there s _ to c.bytes-s.ensures _ c.find.ensures opened c.in-Some.is in
@@ -79,7 +80,7 @@ block_at-block-requires-clause-inside c =
 
 pub block_at-block-requires-clause-brace : goal.block_at-block-requires-clause-brace
 block_at-block-requires-clause-brace c =
-    let s = c.args.self.now in
+    let s = bytes_of c.args.self.now in
     let to = c.args.to in
     let opened = c.in-Some.opened in
     let e₁ : find round_open to (drop to s) ≡ some opened = there s _ to c.bytes-s.ensures _ c.find.ensures opened c.in-Some.is in
@@ -90,7 +91,7 @@ block_at-block-requires-clause-brace c =
 pub returns-in-None-clause-signed : goal.returns-in-None-clause-signed
 unfolding Barren
 returns-in-None-clause-signed c =
-    let s = c.args.self.now in
+    let s = bytes_of c.args.self.now in
     let to = c.args.to in
     let opened = c.in-Some.opened in
     let e₁ : find round_open to (drop to s) ≡ some opened = there s _ to c.bytes-s.ensures _ c.find.ensures opened c.in-Some.is in
@@ -102,7 +103,7 @@ returns-in-None-clause-signed c =
 
 pub returns-in-Some-block-clause-signed : goal.returns-in-Some-block-clause-signed
 returns-in-Some-block-clause-signed c =
-    let s = c.args.self.now in
+    let s = bytes_of c.args.self.now in
     let to = c.args.to in
     let opened = c.in-Some.opened in
     let e₁ : find round_open to (drop to s) ≡ some opened = there s _ to c.bytes-s.ensures _ c.find.ensures opened c.in-Some.is in
