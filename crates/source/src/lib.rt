@@ -34,7 +34,7 @@ pub struct Cursor<'a> {
     spanless: usize,
     barren_from: usize,
     barren_to: usize,
-    ghost ready: { Ready (bytes_of text) (state (bytes_of text) at line span_end resume spanless barren_from barren_to) } by { ready_prop (bytes_of text) (state (bytes_of text) at line span_end resume spanless barren_from barren_to) },
+    ghost ready: { Ready (bytes_of text) (state (bytes_of text) at line span_end resume spanless barren_from barren_to) } by { ready_prop _ _ },
 }
 
 // A function: where its name stands in the text, and what is measured.
@@ -291,5 +291,21 @@ impl<'a> Iterator for Cursor<'a> {
             }
         }
         None
+    }
+}
+
+#[cfg(test)]
+mod tests {
+    use super::Cursor;
+
+    // A copy goes on from the place of the cursor, which stays where it is.
+    #[test]
+    fn copied(rt: HostRuntime) {
+        let mut cursor = Cursor::new(b"fn a() {}\nfn b() {}\n");
+        assert!(rt; cursor.next().is_some_and(|f| f.line == 1));
+        let mut copy = cursor;
+        assert!(rt; copy.next().is_some_and(|f| f.line == 2));
+        assert!(rt; copy.next().is_none());
+        assert!(rt; cursor.next().is_some_and(|f| f.line == 2));
     }
 }
