@@ -7,6 +7,7 @@ ghost use Rattle.arrayvec.specs.ArrayVec.{array_vec_len};
 ghost use Rattle.text_rules.specs.Bytes.{before, same};
 ghost use Rattle.text_rules.specs.Search.{part};
 ghost use Rattle.text_rules.specs.Selection.{Rising};
+ghost use Rattle.sorted_keys.specs.Held.{Held, keys_at, no_place};
 ghost use Rattle.sorted_keys.specs.Insert.{insert, insert_at, place_of};
 
 use arrayvec::ArrayVec;
@@ -25,7 +26,7 @@ struct Place {
     to: u32,
 }
 
-// The keys, by their places. Clauses see the lines and the keys.
+// The keys, by their places. Clauses see the lines, the keys and the places.
 #[derive(Drop)]
 pub struct Keys<'a> {
     baseline: Baseline<'a>,
@@ -109,11 +110,12 @@ impl<'a> Keys<'a> {
         }
     }
 
-    // How many keys there are. They rise.
+    // How many keys there are. They rise, and each stands at its place.
     pub fn len(&self) -> usize
         ensures count { result ≡ length self.now.keys }
         ensures few { result ≤ 8192 }
         ensures rising { Rising before self.now.keys }
+        ensures held { Held self.now.lines self.now.places × (self.now.keys ≡ keys_at self.now.lines self.now.places) }
     {
         self.places.len()
     }
@@ -124,6 +126,8 @@ impl<'a> Keys<'a> {
         ensures bytes { part result.start result.end self.now.lines ≡ get_or self.now.keys i [] }
         ensures order { result.start ≤ result.end }
         ensures inside { result.end ≤ length self.now.lines }
+        ensures short { result.end ≤ 33554432 }
+        ensures place { (result.start ≡ (get_or self.now.places i no_place).from) × (result.end ≡ (get_or self.now.places i no_place).to) }
     {
         let place = self.places[i];
         place.from as usize..place.to as usize

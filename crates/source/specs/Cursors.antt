@@ -171,6 +171,14 @@ pub record FoundAt (s : List ℕ) (line from to : ℕ) (b : Brackets) (f : Found
   pub cyclomatic-is : f.cyclomatic ≡ cyclomatic_of (part b.body (b.end + 1) s)
   pub nesting-is : f.nesting ≡ nesting_of (part b.body (b.end + 1) s)
 
+-- the function at a place, whatever the number of its line
+pub record GivenAt (s : List ℕ) (at line : ℕ) (f : Found) (end : ℕ) : Type 0 where
+  pub places : Places
+  pub found : function_at (drop at s) ≡ some places
+  pub function_is : text_fun s f ≡ measured at line (drop at s) places
+  pub end_is : end ≡ at + places.body_to
+  pub name-inside : f.name_at + f.name_len ≤ length s
+
 -- the function at a place
 pub record MeasuredAt (s : List ℕ) (at line : ℕ) (f : Found) (end : ℕ) : Type 0 where
   pub places : Places

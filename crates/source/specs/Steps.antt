@@ -27,7 +27,7 @@ use Rattle.passing.specs.Passing.{Passed}
 use Rattle.passing.specs.declared.Spot.{Spot}
 use Rattle.search.specs.EndLaws.{no_body, no-partner, none-some}
 use Rattle.search.specs.Place.{Absent}
-use Rattle.source.specs.Cursors.{Barren, Calm, Closed, FoundAt, MeasuredAt, Quieter, Ready, SpanAt, Spanless, Yields, moved_to, remaining, remaining_at, state, text_fun}
+use Rattle.source.specs.Cursors.{Barren, Calm, Closed, FoundAt, GivenAt, MeasuredAt, Quieter, Ready, SpanAt, Spanless, Yields, moved_to, remaining, remaining_at, state, text_fun}
 use Rattle.source.specs.declared.text.Brackets.{Brackets}
 use Rattle.source.specs.State.{State}
 use Rattle.source.specs.declared.Found.{Found}
@@ -284,11 +284,11 @@ module _ (s : List ℕ) (at from to : ℕ) (e : from ≡ at + 2 + run is_space (
   pub broken : from ≤ to → to ≢ from → ((start : ℕ) → function_from start to s ≡ none) → function_at (drop at s) ≡ none
   broken h n gone = no_function s at (omega (arith, from_is, to_is)) (ap (λ k. function_from (at + name_start (drop at s)) k s) (sym to_is) ∙ gone (at + name_start (drop at s)))
 
-  there : from ≤ to → (line : ℕ) → Here s at line (drop at s) → (b : Brackets) (f : Found) → Closed s to b → FoundAt s line from to b f
+  there : from ≤ to → (line : ℕ) (b : Brackets) (f : Found) → Closed s to b → FoundAt s line from to b f
       → (p : Places) → function_at (drop at s) ≡ some p → moved_places at (some p) ≡ some (places_at (at + name_start (drop at s)) to b.opened b.closed b.body b.end)
-      → MeasuredAt s at line f (b.end + 1)
+      → GivenAt s at line f (b.end + 1)
   unfolding text_fun measured
-  there h line here-at b f c i p g m =
+  there h line b f c i p g m =
       let m₁ : at + p.name_from ≡ from = ap (place_in (λ q. q.name_from)) m ∙ sym from_is in
       let m₂ : at + p.name_to ≡ to = ap (place_in (λ q. q.name_to)) m in
       let m₃ : at + p.params_from ≡ b.opened + 1 = ap (place_in (λ q. q.params_from)) m ∙ sym (add-one b.opened) in
@@ -307,15 +307,27 @@ module _ (s : List ℕ) (at from to : ℕ) (e : from ≡ at + 2 + run is_space (
         found = g;
         function_is = same;
         end_is = sym m₆;
-        fine = subst (Fine s) (sym same) (fine s at line (drop at s) p here-at g);
         name-inside = omega (arith, i.name-at-is, i.name_len_is, c.name-first, c.list_order, c.list_first, c.body-order, c.inside);
       }
 
-  pub function_there : from ≤ to → to ≢ from → (line : ℕ) → Here s at line (drop at s) → (b : Brackets) (f : Found) → Closed s to b → FoundAt s line from to b f → MeasuredAt s at line f (b.end + 1)
-  function_there h n line here-at b f c i =
+  -- whatever the number of the line
+  pub function_given : from ≤ to → to ≢ from → (line : ℕ) (b : Brackets) (f : Found) → Closed s to b → FoundAt s line from to b f → GivenAt s at line f (b.end + 1)
+  function_given h n line b f c i =
       let q = places_at (at + name_start (drop at s)) to b.opened b.closed b.body b.end in
       let (p, g, m) = function_at_lem s at (omega (arith, from_is, to_is)) q (ap (λ k. function_from (at + name_start (drop at s)) k s) (sym to_is) ∙ c.places (at + name_start (drop at s))) in
-      there h line here-at b f c i p g m
+      there h line b f c i p g m
+
+  pub function_there : from ≤ to → to ≢ from → (line : ℕ) → Here s at line (drop at s) → (b : Brackets) (f : Found) → Closed s to b → FoundAt s line from to b f → MeasuredAt s at line f (b.end + 1)
+  function_there h n line here-at b f c i =
+      let g = function_given h n line b f c i in
+      record {
+        places = g.places;
+        found = g.found;
+        function_is = g.function_is;
+        end_is = g.end_is;
+        name-inside = g.name-inside;
+        fine = subst (Fine s) (sym g.function_is) (fine s at line (drop at s) g.places here-at g.found);
+      }
 
 then-none : {A : Type 0} (o : Option ℕ) (k : ℕ → Option A) → ((m : ℕ) → o ≡ some m → k m ≡ none) → (o and_then k) ≡ none
 then-none none k h = refl
