@@ -143,8 +143,11 @@ under : (xs : List Group) (n next i : ℕ) → Falls (next + 1) i xs → IsBehin
 under [] n next i f d = tt
 under (y ∷ ys) n next i f d = (let e = d y refl in omega (arith, f.0, e), f.1, omega (arith, f.2), falls_later ys y.begun y.begun i (i + n) (omega arith) (omega arith) f.3)
 
+pub height_low : (next i : ℕ) (xs : List Group) → Stack xs next i → IsBehind next xs → length xs ≤ next
+height_low next i xs s new = length_falls xs next (i + 0) (under xs 0 next i s.falls new)
+
 pub room_above : (next i : ℕ) (xs : List Group) → Stack xs next i → IsBehind next xs → length xs ≤ 2048
-room_above next i xs s new = omega (arith, s.most, length_falls xs next (i + 0) (under xs 0 next i s.falls new))
+room_above next i xs s new = omega (arith, s.most, height_low next i xs s new)
 
 -- brackets behind a search that is behind the last group are a group
 pub turned_push : (n next i : ℕ) (xs : List Group) → Stack xs next i → 0 < n → IsBehind next xs
@@ -244,6 +247,10 @@ closing-all n next i xs s = record { stack = s; depth = λ j h. refl }
 
 -- while brackets are closed: there is no group, or the last one is closed, or what is left is closed in it
 module _ (n left next i : ℕ) (xs : List Group) where
+  -- brackets of which some are left, and then these
+  pub closing_then : (ys zs : List Group) → Closing n left next i xs ys → Turned (less left) next i ys zs → Turned (less n) next i xs zs
+  closing_then ys zs c t = record { stack = t.stack; depth = λ j h. c.depth j h ∙ t.depth j h }
+
   pub closing-none : (ys : List Group) → last_of ys ≡ None → Closing n left next i xs ys → Turned (less n) next i xs ys
   unfolding above
   closing-none [] e c = record { stack = c.stack; depth = λ j h. (let d = c.depth j h in omega (arith, d)) }
@@ -263,5 +270,5 @@ module _ (n left next i : ℕ) (xs : List Group) where
     closing-rest (y ∷ ys) e l c =
         let same = same_Some y x e in
         let t = sized_less next i y ys c.stack left (omega (arith, l, ap (λ (g : Group). g.size) same)) in
-        let u : Turned (less n) next i xs (resized (y.size - left) (y ∷ ys)) = record { stack = t.stack; depth = λ j h. c.depth j h ∙ t.depth j h } in
+        let u = closing_then (y ∷ ys) (resized (y.size - left) (y ∷ ys)) c t in
         subst (λ (g : Group). Turned (less n) next i xs (resized (g.size - left) (y ∷ ys))) same u

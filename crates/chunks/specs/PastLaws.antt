@@ -6,21 +6,26 @@ use Rattle.source_rules.specs.Brackets.{partner}
 use Rattle.blocks.specs.Blocks.{count_most}
 use Rattle.flat.specs.Body.{Counted}
 use Rattle.flat.specs.declared.Counts.{Counts}
-use Rattle.chunks.specs.Passing.{Misses, PassesBody, Summary, TellsCounts, TellsDepth}
+use Rattle.chunks.specs.Passing.{Misses, PassesBody, PassesRound, Summary, TellsCounts, TellsDepth}
 use Rattle.chunks.specs.Table.{Entry}
 use Rattle.chunks.specs.declared.Chunk.{Chunk}
+use Rattle.chunks.specs.declared.Round.{Round}
 use Rattle.chunks.specs.declared.Sums.{Sums}
 
 -- a round bracket with as many open inside it as are closed in the chunk is sought on behind it
+pub round_on : (s : List ℕ) (at : ℕ) (r : Round) (depth : ℕ) → PassesRound s at (at + 4096) r → r.opened ≤ 4096 → at + 4096 ≤ length s → depth ≤ at → r.closed ≤ depth
+    → TellsDepth s at depth (Some (depth - r.closed + r.opened))
+round_on s at r depth p o l d c = (
+  l,
+  omega (arith, o, d, c),
+  λ more.
+      let e : depth + more - r.closed + r.opened ≡ depth - r.closed + r.opened + more = omega (arith, c) in
+      p (depth + more) (omega (arith, c)) ∙ ap (λ k. partner round_open round_close k (at + 4096) (drop (at + 4096) s)) e,
+)
+
 pub round-further : (s : List ℕ) (at : ℕ) (x : Sums) (depth : ℕ) → Entry s at x → at + 4096 ≤ length s → depth ≤ at → x.round.closed ≤ depth
     → TellsDepth s at depth (Some (depth - x.round.closed + x.round.opened))
-round-further s at x depth h l d c = (
-  l,
-  omega (arith, h.opened-most, d, c),
-  λ more.
-      let e : depth + more - x.round.closed + x.round.opened ≡ depth - x.round.closed + x.round.opened + more = omega (arith, c) in
-      h.round (depth + more) (omega (arith, c)) ∙ ap (λ k. partner round_open round_close k (at + 4096) (drop (at + 4096) s)) e,
-)
+round-further s at x depth h = round_on s at x.round depth h.round h.opened-most
 
 -- what a search for a body has counted behind a chunk
 abbrev pub counts_past : Chunk ℕ → Counts → Counts

@@ -39,13 +39,17 @@ told s t at h w few edge inside = subst (λ p. Entry s p (get_or t.sums (at / 40
 abbrev pub Written : (s : List ℕ) (xs : List Sums) (many : ℕ) → Type 0
 Written s xs many = (i : ℕ) → i < many → Entry s (i * 4096) (get_or xs i no_sums)
 
--- those of the next chunk too
-pub written_more : (s : List ℕ) (xs : List Sums) (j : ℕ) (x : Sums) → j < length xs → Entry s (j * 4096) x → Written s xs j → Written s (set xs j x) (j + 1)
-written_more s xs j x l e before i k =
+-- what is told of the first ones and of the next is told of all of these
+pub all_more : (P : ℕ → Sums → Type 0) (xs : List Sums) (j : ℕ) (x : Sums) → j < length xs → P j x → ((i : ℕ) → i < j → P i (get_or xs i no_sums)) → (i : ℕ) → i < j + 1
+    → P i (get_or (set xs j x) i no_sums)
+all_more P xs j x l e before i k =
     elim (whether (eqb i j)) [
-      | inl y ↦
-          subst (λ k. Entry s (k * 4096) (get_or (set xs j x) k no_sums)) (sym (eqb-true i j y)) (subst (Entry s (j * 4096)) (sym (get_or-set_same xs j x no_sums l)) e)
+      | inl y ↦ subst (λ k. P k (get_or (set xs j x) k no_sums)) (sym (eqb-true i j y)) (subst (P j) (sym (get_or-set_same xs j x no_sums l)) e)
       | inr y ↦
           let d = eqb-false i j y in
-          subst (Entry s (i * 4096)) (sym (get_or-set_other xs j i x no_sums d)) (before i (omega (arith, d, k)))
+          subst (P i) (sym (get_or-set_other xs j i x no_sums d)) (before i (omega (arith, d, k)))
     ]
+
+-- those of the next chunk too
+pub written_more : (s : List ℕ) (xs : List Sums) (j : ℕ) (x : Sums) → j < length xs → Entry s (j * 4096) x → Written s xs j → Written s (set xs j x) (j + 1)
+written_more s = all_more (λ i. Entry s (i * 4096))

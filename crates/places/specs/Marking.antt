@@ -6,13 +6,14 @@ use Rattle.std.proofs.Math.Option.{Option, none, some}
 use Rattle.std.proofs.lemmas.Bool.{eqb-false}
 use Rattle.text_rules.specs.Bytes.{if◌then◌otherwise◌, same}
 use Rattle.text_rules.specs.BytesLaws.{whether}
+use Rattle.text_rules.specs.Search.{bytes_before}
 use Rattle.gate_rules.specs.Baseline.{Entry, entries_of_lines, entry_key, entry_of, later_of, lookup}
 use Rattle.gate_rules.proofs.BaselineLaws.{later_assoc, later-none}
 use Rattle.gate_rules.specs.Functions.{Fun, key}
 use Rattle.functions.specs.Shown.{no_fun}
 use Rattle.baseline.specs.LinesOf.{LineAt, line-entries}
 use Rattle.baseline.specs.declared.Line.{Line}
-use Rattle.baseline.specs.Reads.{hit, key_of_entry}
+use Rattle.baseline.specs.Reads.{hit, key_of_entry, line_at}
 use Rattle.baseline.specs.Steps.{entries-end, entry_list}
 use Rattle.live.specs.Live.{Only}
 use Rattle.places.specs.Places.{Filled, Marks, entry_at, lists, placed}
@@ -155,7 +156,10 @@ module _ (s : List ℕ) (fs : List Fun) where
 
 -- ---- the line at a place
 
-pub place-entry : (s : List ℕ) (place : ℕ) (l : Line) → 1 ≤ place → LineAt s (place - 1) l → entry_of l.bytes.now ≡ placed s place
-place-entry s place l h line =
+pub text-entry : (s : List ℕ) (place : ℕ) (text : List ℕ) → 1 ≤ place → text ≡ line_at s (place - 1) (place - 1 + bytes_before 10 (drop (place - 1) s)) → entry_of text ≡ placed s place
+text-entry s place text h e =
     let there : suc (place - 1) ≡ place = omega arith in
-    ap entry_of line.text ∙ ap (placed s) there
+    ap entry_of e ∙ ap (placed s) there
+
+pub place-entry : (s : List ℕ) (place : ℕ) (l : Line) → 1 ≤ place → LineAt s (place - 1) l → entry_of l.bytes.now ≡ placed s place
+place-entry s place l h line = text-entry s place l.bytes.now h line.text

@@ -27,7 +27,7 @@ use Rattle.passing.specs.Passing.{Passed}
 use Rattle.passing.specs.declared.Spot.{Spot}
 use Rattle.search.specs.EndLaws.{no_body, no-partner, none-some}
 use Rattle.search.specs.Place.{Absent}
-use Rattle.source.specs.Cursors.{Barren, Calm, Closed, FoundAt, GivenAt, MeasuredAt, Quieter, Ready, SpanAt, Spanless, Yields, moved_to, remaining, remaining_at, state, text_fun}
+use Rattle.source.specs.Cursors.{Barren, Calm, Closed, FoundAt, GivenAt, MeasuredAt, Passes, Quieter, Ready, SpanAt, Spanless, Yields, moved_to, remaining, remaining_at, state, text_fun}
 use Rattle.source.specs.declared.text.Brackets.{Brackets}
 use Rattle.source.specs.State.{State}
 use Rattle.source.specs.declared.Found.{Found}
@@ -175,6 +175,37 @@ quiet s c h ready calm line e = passes s c h d next refl none_here
                 (other_byte s c.at h (byte_before s c.at) (calm.no_word (ltb-false c.at c.span_end t) (ltb-false c.at c.resume u)))
           ]
         ]
+
+-- past a byte all that holds of a cursor holds, without a function and with one. No name is sought between the places that are told
+module _ (s : List ℕ) (c : State) (h : c.at < length s) (ready : Ready s c) (d : State) (text : d.text ≡ s) (next : Next s c d) where
+  pub ready_behind : Barren s d.barren_from d.barren_to → Ready s d
+  ready_behind gone =
+      let m = ready_span s c d.span_end d.spanless ready next.span.no_span in
+      let k = ready_next s (record c { span_end = d.span_end; spanless = d.spanless }) h m (count_after lf (get_or s c.at 0) c.line) refl in
+      record {
+        inside = omega (arith, next.at-is, k.inside);
+        line-least = omega (arith, next.line-is, k.line-least);
+        line-most = omega (arith, next.line-is, next.at-is, k.line-most);
+        no_span = subst (λ (n : ℕ). Spanless s n d.spanless) (sym next.at-is) k.no_span;
+        no_function = gone;
+      }
+
+  pub passes_on : d.resume ≡ c.resume → sought (d.span_end - c.at) (c.resume - c.at) (byte_before s c.at) (drop c.at s) ≡ none → Barren s d.barren_from d.barren_to → Passes s c d
+  passes_on e n gone = record { same = passes s c h d next e n; text = text; ready = ready_behind gone; further = next.at-is }
+
+  pub finds_on : d.barren_from ≡ c.barren_from → d.barren_to ≡ c.barren_to → (f : Found) (m : GivenAt s c.at c.line f d.resume)
+      → sought (d.span_end - c.at) (c.resume - c.at) (byte_before s c.at) (drop c.at s) ≡ some m.places → Yields s c f d
+  finds_on from to f m n =
+      let here : Here s c.at c.line (drop c.at s) = record { rest = refl; inside = omega arith; line-least = ready.line-least; line-most = omega (arith, ready.line-most) } in
+      let g : Fine s (text_fun s f) = subst (Fine s) (sym m.function_is) (fine s c.at c.line (drop c.at s) m.places here m.found) in
+      let i : MeasuredAt s c.at c.line f d.resume =
+      record { places = m.places; found = m.found; function_is = m.function_is; end_is = m.end_is; name-inside = m.name-inside; fine = g } in
+      let gone : Barren s d.barren_from d.barren_to = subst (λ (n : ℕ). Barren s n d.barren_to) (sym from) (subst (Barren s c.barren_from) (sym to) ready.no_function) in
+      finds s c h d next text (ready_behind gone) f i n
+
+pub quiet_on : (s : List ℕ) (c : State) → c.text ≡ s → c.at < length s → Ready s c → Calm s c.span_end c.resume c.at → (line : ℕ) → line ≡ count_after lf (get_or s c.at 0) c.line
+    → Passes s c (moved_to c (c.at + 1) line)
+quiet_on s c text h ready calm line e = record { same = quiet s c h ready calm line e; text = text; ready = ready_next s c h ready line e; further = refl }
 
 -- the places at which nothing begins: in a span every one, in a body those without #, and anywhere those without # and f
 module _ (s : List ℕ) (span_end resume at : ℕ) where
