@@ -24,16 +24,16 @@ pub struct Cursor<'a> {
     // the text, and what was learnt of it
     text: Text<'a>,
     // the byte to look at next, and its line
-    at: usize,
-    line: usize,
+    pub at: usize,
+    pub line: usize,
     // the end of the last test span, and of the last body
-    span_end: usize,
-    resume: usize,
+    pub span_end: usize,
+    pub resume: usize,
     // What was sought and not found is not sought again: no test span begins from `at` up to the first place, no name that ends from the second up
     // to the third is a function's.
-    spanless: usize,
-    barren_from: usize,
-    barren_to: usize,
+    pub spanless: usize,
+    pub barren_from: usize,
+    pub barren_to: usize,
     ghost ready: { Ready (bytes_of text) (state (bytes_of text) at line span_end resume spanless barren_from barren_to) } by { ready_prop _ _ },
 }
 

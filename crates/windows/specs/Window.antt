@@ -25,9 +25,26 @@ BeginsIn from (Filled place used) = place ≡ from
 abbrev pub Begins : (from : ℕ) → Window → Type 0
 Begins from w = BeginsIn from w.stage
 
--- all notes stay, or none is left
+-- the same part stands as before, or none as before
+abbrev pub Stays : (w w' : Window) → Type 0
+Stays w w' = (from : ℕ) → (Begins from w' → Begins from w) × (Begins from w → Begins from w')
+
+-- no part stands
+abbrev pub NonePart : Window → Type 0
+NonePart w = (from : ℕ) → Begins from w → from ≢ from
+
+-- the part and all notes stay, or none is left
 abbrev pub Kept : (w w' : Window) → Type 0
-Kept w w' = ((at : ℕ) → noted w' at ≡ noted w at) ⊎ ((at : ℕ) → noted w' at ≡ Nothing)
+Kept w w' = (((at : ℕ) → noted w' at ≡ noted w at) × Stays w w') ⊎ (((at : ℕ) → noted w' at ≡ Nothing) × NonePart w')
+
+-- where no part stood none stands
+pub kept_none : (w w' : Window) → NonePart w → Kept w w' → NonePart w'
+kept_none w w' n (inl k) from b = n from ((k.1 from).0 b)
+kept_none w w' n (inr k) from b = k.1 from b
+
+-- after `new` and `clear` none stands
+pub none_counted : (w : Window) (from count : ℕ) → w.stage ≡ Counting from count → NonePart w
+none_counted w from count e at b = subst (BeginsIn at) e b
 
 -- what is noted of each place tells of it what it must
 abbrev pub Noted : (P : (at : ℕ) → Note → Type 0) → Window → Type 0
@@ -44,8 +61,8 @@ module _ (P : (at : ℕ) → Note → Type 0) (none : (at : ℕ) → P at Nothin
 
   -- what stays tells what it told
   pub noted_kept : (w w' : Window) → Noted P w → Kept w w' → Noted P w'
-  noted_kept w w' t (inl same) at = subst (P at) (sym (same at)) (t at)
-  noted_kept w w' t (inr gone) at = noted_nothing w' gone at
+  noted_kept w w' t (inl same) at = subst (P at) (sym (same.0 at)) (t at)
+  noted_kept w w' t (inr gone) at = noted_nothing w' gone.0 at
 
   -- one note more
   put_in : (notes : List Note) (i k at : ℕ) (n : Note) → (k ≡ i → P at n) → P at (get_or notes k Nothing) → P at (get_or (set notes i n) k Nothing)
