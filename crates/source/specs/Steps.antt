@@ -111,17 +111,21 @@ module _ (s : List ℕ) (c : State) (h : c.at < length s) (d : State) (next : Ne
         fine = g;
       }
 
--- at the start nothing was sought in vain
-pub ready_start : (s t : List ℕ) → Ready s (state t 0 1 0 0 0 0 0)
+-- at any place a search may begin of which nothing was sought in vain
+pub ready_from : (s t : List ℕ) (at line span_end resume : ℕ) → at ≤ length s → 1 ≤ line → line ≤ at + 1 → Ready s (state t at line span_end resume 0 0 0)
 unfolding Spanless Barren
-ready_start s t =
+ready_from s t at line span_end resume i l m =
     record {
-      inside = omega arith;
-      line-least = omega arith;
-      line-most = omega arith;
+      inside = i;
+      line-least = l;
+      line-most = m;
       no_span = λ x h k. absurd (omega arith);
       no_function = λ from x h k. absurd (omega arith);
     }
+
+-- as at the start
+pub ready_start : (s t : List ℕ) → Ready s (state t 0 1 0 0 0 0 0)
+ready_start s t = ready_from s t 0 1 0 0 (omega arith) (omega arith) (omega arith)
 
 -- one byte further what holds of a cursor holds
 pub ready_next : (s : List ℕ) (c : State) → c.at < length s → Ready s c → (line : ℕ) → line ≡ count_after lf (get_or s c.at 0) c.line → Ready s (moved_to c (c.at + 1) line)
