@@ -39,10 +39,10 @@ const KINDS: [Kind; 256] = [
 ];
 
 // The class of each byte, at its number.
-#[derive(Drop)]
+#[derive(Clone, Copy)]
 pub struct Classes {
     kinds: [Kind; 256],
-    ghost right: { IsTable kinds },
+    pub ghost right: { IsTable kinds },
 }
 
 // The table, to be lent to a loop.

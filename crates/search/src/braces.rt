@@ -86,6 +86,25 @@ impl<'a> Braces<'a> {
         }
     }
 
+    // The same bytes, lent for another time: what was learnt stays.
+    pub fn lent_again<'b>(self, text: &'b [u8]) -> Braces<'b>
+        requires { text.now ≡ self.text.now }
+        ensures text { result.text.now ≡ text.now }
+        ensures braces { (result.last_opening ≡ self.entry.last_opening) × (result.last_closing ≡ self.entry.last_closing) }
+        ensures unclosed { (result.at ≡ self.entry.at) × (result.depth ≡ self.entry.depth) }
+        ensures last { (result.latest ≡ self.entry.latest) × (result.older ≡ self.entry.older) }
+    {
+        Braces {
+            text,
+            last_opening: self.last_opening,
+            last_closing: self.last_closing,
+            at: self.at,
+            depth: self.depth,
+            latest: self.latest,
+            older: self.older,
+        }
+    }
+
     // The text.
     pub fn text(&self) -> &'a [u8]
         ensures { result.now ≡ self.now.text.now }

@@ -74,6 +74,18 @@ impl<'a> Notes<'a> {
         }
     }
 
+    // The same bytes, lent for another time: what is noted and kept stays.
+    pub fn lent_again<'b>(self, text: &'b [u8]) -> Notes<'b>
+        requires { text.now ≡ text_of self }
+        ensures { text_of result ≡ text.now }
+    {
+        let Notes { lists, kept } = self;
+        Notes {
+            lists: lists.lent_again(text),
+            kept,
+        }
+    }
+
     // The text.
     pub fn text(&self) -> &'a [u8]
         ensures { result.now ≡ text_of self.now }

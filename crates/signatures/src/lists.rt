@@ -70,6 +70,15 @@ impl<'a> Lists<'a> {
         }
     }
 
+    // The same bytes, lent for another time: what is noted stays.
+    pub fn lent_again<'b>(self, text: &'b [u8]) -> Lists<'b>
+        requires { text.now ≡ self.text.now }
+        ensures { result.text.now ≡ text.now }
+    {
+        let Lists { window, sums, .. } = self;
+        Lists { text, window, sums }
+    }
+
     // The text.
     pub fn text(&self) -> &'a [u8]
         ensures { result.now ≡ self.now.text.now }

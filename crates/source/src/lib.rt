@@ -14,6 +14,7 @@ ghost use Rattle.source.specs.Bytes.{bytes_of};
 ghost use Rattle.source.specs.Cursors.{Closed, FoundAt, Measures, Quieter, Ready, SpanAt, Stepped, Turned, moved_to, ready_prop, remaining, sought_at, state, with_name};
 
 use passing::Spot;
+use search::Braces;
 use text::{Brackets, Text};
 
 mod text;
@@ -133,6 +134,30 @@ impl<'a> Cursor<'a> {
             barren_from: 0,
             barren_to: 0,
         }
+    }
+
+    // The same place in the same bytes, lent for another time: what was learnt and noted stays.
+    pub fn lent_again<'b>(self, bytes: &'b [u8]) -> Cursor<'b>
+        requires { bytes.now ≡ (state_of self).text }
+        ensures { state_of result ≡ state_of self.entry }
+    {
+        Cursor {
+            text: self.text.lent_again(bytes),
+            at: self.at,
+            line: self.line,
+            span_end: self.span_end,
+            resume: self.resume,
+            spanless: self.spanless,
+            barren_from: self.barren_from,
+            barren_to: self.barren_to,
+        }
+    }
+
+    // What was learnt of the braces of the text.
+    pub fn braces(&self) -> Braces<'a>
+        ensures { result.text.now ≡ (state_of self.now).text }
+    {
+        self.text.braces()
     }
 
     // The place of the byte to look at next.

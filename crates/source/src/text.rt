@@ -76,6 +76,25 @@ impl<'a> Text<'a> {
         }
     }
 
+    // The same bytes, lent for another time: what was learnt and noted stays.
+    pub fn lent_again<'b>(self, bytes: &'b [u8]) -> Text<'b>
+        requires { bytes.now ≡ bytes_of self }
+        ensures { bytes_of result ≡ bytes.now }
+    {
+        let Text { braces, notes } = self;
+        Text {
+            braces: braces.lent_again(bytes),
+            notes: notes.lent_again(bytes),
+        }
+    }
+
+    // What was learnt of its braces.
+    pub fn braces(&self) -> Braces<'a>
+        ensures { result.text.now ≡ bytes_of self.now }
+    {
+        self.braces
+    }
+
     // Its bytes.
     pub fn bytes(&self) -> &'a [u8]
         ensures { result.now ≡ bytes_of self.now }
