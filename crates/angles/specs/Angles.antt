@@ -134,7 +134,7 @@ module _ (next i : ℕ) (xs : List Group) (s : Stack xs next i) where
   turned_same f i' l e = record { stack = stack-later i' l; depth = λ j h. e (above xs j) }
 
 -- as many groups stand at most as searches had begun
-length_falls : (xs : List Group) (below at : ℕ) → Falls below at xs → length xs ≤ below
+pub length_falls : (xs : List Group) (below at : ℕ) → Falls below at xs → length xs ≤ below
 length_falls [] below at f = omega arith
 length_falls (x ∷ xs) below at f = omega (arith, f.0, length_falls xs x.begun at f.3)
 
@@ -177,7 +177,7 @@ module _ (next i : ℕ) (x : Group) (xs : List Group) (s : Stack (x ∷ xs) next
       }
 
   -- fewer than the last group has are closed
-  sized_less : (n : ℕ) → n < x.size → Turned (less n) next i (x ∷ xs) (resized (x.size - n) (x ∷ xs))
+  pub sized_less : (n : ℕ) → n < x.size → Turned (less n) next i (x ∷ xs) (resized (x.size - n) (x ∷ xs))
   sized_less n l =
       record {
         stack = sized-stack (x.size - n) i (omega (arith, l)) (omega (arith, s.falls.2)) (omega arith);
@@ -197,7 +197,7 @@ module _ (next i : ℕ) (x : Group) (xs : List Group) (s : Stack (x ∷ xs) next
       }
 
   -- the last group is closed
-  closed_whole : Turned (less x.size) next i (x ∷ xs) xs
+  pub closed_whole : Turned (less x.size) next i (x ∷ xs) xs
   closed_whole =
       record {
         stack = record { most = s.most; falls = falls_later xs x.begun (next + 1) i i (omega (arith, s.falls.0)) (omega arith) s.falls.3 };
