@@ -256,6 +256,33 @@ impl<'a, R: Rank> Ranking<'a, R> {
         self.taken += 1;
         Some(first)
     }
+
+    // The functions may be lent anew between two calls: the ranking goes on over the new loan.
+    pub fn with_functions<'b>(self, functions: Functions<'b>) -> Ranking<'b, R>
+        requires { functions_of gate functions.tree.now ≡ self.all }
+        ensures { result ≡ self.entry }
+    {
+        let rank = self.tournament.rank;
+        Ranking {
+            tournament: Tournament { rank, functions },
+            limits: self.limits,
+            nodes: self.nodes,
+            taken: self.taken,
+        }
+    }
+}
+
+impl<'a, R: Rank + Copy> Ranking<'a, R> {
+    // Where the order is a value, a listing may be gone on with twice from where it stands.
+    pub fn copied(&self) -> Ranking<'a, R>
+        ensures { result ≡ self.now }
+    {
+        let tournament = Tournament { ..self.tournament };
+        Ranking {
+            tournament,
+            ..*self
+        }
+    }
 }
 
 impl<'a, R: Rank + Drop> Iterator for Ranking<'a, R> {
