@@ -358,7 +358,7 @@ pub fn key_with(line: &[u8], path: usize) -> Option<&[u8]>
 
 // The key of a line.
 pub fn key(line: &[u8]) -> Option<&[u8]>
-    ensures { key_text result ≡ key_of_entry (entry_of line.now) }
+    ensures { (key_text result ≡ key_of_entry (entry_of line.now)) × KeyFrom (key_text result) line.now (bytes_before tab line.now) }
 {
     key_with(line, field_end(line, 0))
 }

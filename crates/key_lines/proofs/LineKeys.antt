@@ -1,15 +1,19 @@
 -- A key that is found in a line, and the last one.
-use Rattle.std.specs.Prelude.{ℕ, Option, Some, ◌≤◌, ◌<◌, ◌≡◌, List, length, take}
+use Rattle.std.specs.Prelude.{ℕ, Option, Some, ◌+◌, ◌-◌, ◌≤◌, ◌<◌, ◌≡◌, List, eqb, ltb, length, take, drop, get_or}
 use Rattle.std.specs.Borrow.{Bor}
 use Rattle.std.specs.Option.{ForSome}
-use Rattle.std.proofs.Common.{ap, sym, subst, ◌∙◌, arith}
+use Rattle.std.proofs.Common.{ap, sym, subst, ◌∙◌, inl, inr, arith, eqb-true, length-take, ltb-false, ltb-true, take-take}
 use Rattle.std.proofs.Math.Option.{Option as MathOption, some}
+use Rattle.std.proofs.lemmas.Bool.{eqb-false}
+use Rattle.text_rules.proofs.LineForms.{trim-cr, trim-none, trim-other}
+use Rattle.text_rules.specs.BytesLaws.{whether}
 use Rattle.text_rules.specs.Classes.{tab}
 use Rattle.text_rules.specs.Search.{bytes_before, part}
 use Rattle.baseline.specs.Plain.{PlainKey, PlainLine}
-use Rattle.baseline.specs.Reads.{KeyFrom, key_text}
+use Rattle.baseline.specs.Reads.{KeyFrom, key_text, line_at}
 use Rattle.prefix.specs.Common.{common_with, front-path}
 use Rattle.key_lines.specs.Keys.{Begins, Meets, known-path, meets-line, text_of}
+use Rattle.key_lines.specs.Meets.{Stands, part_length}
 use Rattle.key_lines.specs.PlainKeys.{own-front}
 use Rattle.key_lines.specs.declared.key.Key.{Key}
 
@@ -30,6 +34,39 @@ read-path o line path f e k q =
 pub found-meets : (last : MathOption (List ℕ)) (line : List ℕ) (o : Option Key) (shared : ℕ) → shared ≡ common_with last line → Begins (text_of o) line
     → ForSome o (λ k. Meets last k.bytes.now shared)
 found-meets last line o shared e b k q = meets-line last line k.bytes.now shared e (subst (λ r. Begins (text_of r) line) q b)
+
+-- a line stands in its text from its place on
+line-part : (s : List ℕ) (from end : ℕ) → (from ≤ end) × (end ≤ length s) → (to : ℕ) × (line_at s from end ≡ part from to s) × (from ≤ to) × (to ≤ length s)
+line-part s from end (h, k) =
+    elim (whether (ltb end (length s))) [
+      | inr t ↦ (end, rw t, h, k)
+      | inl t ↦ elim (whether (ltb from end)) [
+        | inr u ↦ (end, rw t (trim-none s from end (ltb-false from end u)), h, k)
+        | inl u ↦
+            let m = ltb-true from end u in
+            elim (whether (eqb (get_or s (end - 1) 0) 13)) [
+              | inl v ↦ (end - 1, rw t (trim-cr s from end m k (eqb-true (get_or s (end - 1) 0) 13 v)), omega (arith, m), omega (arith, k))
+              | inr v ↦ (end, rw t (trim-other s from end m k (eqb-false (get_or s (end - 1) 0) 13 v)), h, k)
+            ]
+      ]
+    ]
+
+-- the beginning of a part of a text stands where the part does
+front-stands : (s k : List ℕ) (from to : ℕ) → (from ≤ to) × (to ≤ length s) → k ≡ take (length k) (part from to s) → Stands s from k
+front-stands s k from to h b =
+    let size : length k ≤ to - from = omega (arith, part_length s from to h, ap length b, length-take (length k) (part from to s)) in
+    let same : from + length k - from ≡ length k = omega arith in (
+      omega (arith, size, h),
+      ap (λ (n : ℕ). take n (drop from s)) same ∙ sym (take-take (length k) (to - from) (drop from s) size) ∙ sym b,
+    )
+
+-- a key that begins the line at a place stands at that place
+pub any-stands : (s line : List ℕ) (from end : ℕ) (o : Option Key) → (from ≤ end) × (end ≤ length s) → line ≡ line_at s from end → Begins (text_of o) line
+    → ForSome o (λ k. Stands s from k.bytes.now)
+any-stands s line from end o h e b k q =
+    let (to, p, m, n) = line-part s from end h in
+    let own : k.bytes.now ≡ take (length k.bytes.now) line = subst (λ r. Begins (text_of r) line) q b in
+    front-stands s k.bytes.now from to (m, n) (own ∙ ap (take (length k.bytes.now)) (e ∙ p))
 
 -- the key of a plain line
 module _ (s : List ℕ) (from path name end : ℕ) (p : PlainLine s from path name end) where

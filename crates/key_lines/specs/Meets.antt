@@ -1,5 +1,6 @@
 -- What is found in the line at a place.
 use Rattle.std.specs.Prelude.{ℕ, ◌+◌, ◌≤◌, ◌-◌, ◌<◌, ◌≡◌, true, List, length, take, drop, get_or}
+use Rattle.std.specs.Option.{ForSome}
 use Rattle.std.proofs.Common.{ap, sym, ◌∙◌, arith, length-drop, length-take, get_or-drop, get_or-take, take-take}
 use Rattle.gate_rules.specs.Baseline.{entry_of}
 use Rattle.baseline.specs.Plain.{PlainLine}
@@ -15,12 +16,17 @@ pub record PlainAt (s : List ℕ) (from : ℕ) : Type 0 where
   pub end : ℕ
   pub line : PlainLine s from path name end
 
--- it is found in the line that begins at a place
+-- a key stands at a place of a text
+abbrev pub Stands : (s : List ℕ) → (from : ℕ) → (key : List ℕ) → Type 0
+Stands s from k = (from + length k ≤ length s) × (part from (from + length k) s ≡ k)
+
+-- it is found in the line that begins at a place, and its key stands there
 pub record OfLine (lines : List ℕ) (from : ℕ) (here : Found) : Type 0 where
   pub ends : here.next ≡ from + bytes_before 10 (drop from lines) + 1
   pub inside : here.next ≤ length lines + 1
   pub key-is : text_of here.key ≡ key_of_entry (entry_of (line_at lines from (from + bytes_before 10 (drop from lines))))
   pub plain_at : is_plain here.key ≡ true → PlainAt lines from
+  pub stands : ForSome here.key (λ k. Stands lines from k.bytes.now)
 
 pub part_length : (s : List ℕ) (a b : ℕ) → (a ≤ b) × (b ≤ length s) → length (part a b s) ≡ b - a
 part_length s a b h = simp (length-take, length-drop) (omega arith)

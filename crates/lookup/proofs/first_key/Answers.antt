@@ -14,7 +14,7 @@ returns-in-Some-key c =
     let at = c.loop-line.line-iterator.at in
     let h = subst (λ t. LineAt t at l) c.loop-line.invariant.0 c.in-Some.ensures.steps.1 in (
       omega (arith, line-onward s at l h, c.loop-line.invariant.1),
-      lead_found s c.args.from at l c.loop-line.invariant.2 h _ (sym (ap key_text c.in-Some-key.is) ∙ c.key.ensures),
+      lead_found s c.args.from at l c.loop-line.invariant.2 h _ (sym (ap key_text c.in-Some-key.is) ∙ c.key.ensures.0),
     )
 
 pub loop-line-preserved : goal.loop-line-preserved
@@ -24,7 +24,7 @@ loop-line-preserved c =
     let at = c.loop-line.line-iterator.at in
     let step = c.in-Some.ensures.steps in
     let h = subst (λ t. LineAt t at l) c.loop-line.invariant.0 step.1 in
-    let past = lead_past s c.args.from at l c.loop-line.invariant.2 h (sym (ap key_text c.in_default.is) ∙ c.key.ensures) in (
+    let past = lead_past s c.args.from at l c.loop-line.invariant.2 h (sym (ap key_text c.in_default.is) ∙ c.key.ensures.0) in (
       step.2 ∙ c.loop-line.invariant.0,
       omega (arith, line-onward s at l h, c.loop-line.invariant.1, step.3),
       past ∙ ap (λ n. entries_of_lines (drop n s)) (sym step.3),

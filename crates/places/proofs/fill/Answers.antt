@@ -34,7 +34,7 @@ loop-line-preserved-in-Some-key c =
       step.2 ∙ c.loop-line.invariant.0,
       subst (λ n. Seen s fs n c.mark.new.places) (sym step.3)
           (seen_next s fs at l line (some c.in-Some-key.key.now) c.loop-line.places c.mark.new.places c.loop-line.invariant.1 (omega (arith, step.0, ap length c.loop-line.invariant.0))
-          (sym (ap key_text c.in-Some-key.is) ∙ c.key.ensures) marks),
+          (sym (ap key_text c.in-Some-key.is) ∙ c.key.ensures.0) marks),
     )
 
 pub loop-line-preserved : goal.loop-line-preserved
@@ -49,7 +49,7 @@ loop-line-preserved c =
       step.2 ∙ c.loop-line.invariant.0,
       subst (λ n. Seen s fs n c.loop-line.places) (sym step.3)
           (seen_next s fs at l line none c.loop-line.places c.loop-line.places c.loop-line.invariant.1 (omega (arith, step.0, ap length c.loop-line.invariant.0))
-          (sym (ap key_text c.in_default.is) ∙ c.key.ensures) (marks_none (at + 1) fs c.loop-line.places)),
+          (sym (ap key_text c.in_default.is) ∙ c.key.ensures.0) (marks_none (at + 1) fs c.loop-line.places)),
     )
 
 pub returns : goal.returns
