@@ -59,10 +59,14 @@ module _ (P : (at : ℕ) → Note → Type 0) (none : (at : ℕ) → P at Nothin
   pub noted_nothing : (w : Window) → ((at : ℕ) → noted w at ≡ Nothing) → Noted P w
   noted_nothing w z at = subst (P at) (sym (z at)) (none at)
 
-  -- what stays tells what it told
+  -- what stays tells what it told, whatever becomes of the part
+  pub noted_still : (w w' : Window) → Noted P w → ((at : ℕ) → noted w' at ≡ noted w at) ⊎ ((at : ℕ) → noted w' at ≡ Nothing) → Noted P w'
+  noted_still w w' t (inl same) at = subst (P at) (sym (same at)) (t at)
+  noted_still w w' t (inr gone) at = noted_nothing w' gone at
+
   pub noted_kept : (w w' : Window) → Noted P w → Kept w w' → Noted P w'
-  noted_kept w w' t (inl same) at = subst (P at) (sym (same.0 at)) (t at)
-  noted_kept w w' t (inr gone) at = noted_nothing w' gone.0 at
+  noted_kept w w' t (inl k) = noted_still w w' t (inl k.0)
+  noted_kept w w' t (inr k) = noted_still w w' t (inr k.0)
 
   -- one note more
   put_in : (notes : List Note) (i k at : ℕ) (n : Note) → (k ≡ i → P at n) → P at (get_or notes k Nothing) → P at (get_or (set notes i n) k Nothing)
