@@ -4,7 +4,7 @@ use Rattle.std.proofs.Common.{ap, subst, ◌∙◌, inl, inr, arith}
 use Rattle.text_rules.specs.Classes.{square_close, square_open}
 use Rattle.source_rules.specs.Finding.{body_at}
 use Rattle.blocks.specs.Blocks.{count_most, count-sum, count_from}
-use Rattle.chunks.specs.Passing.{MissesEnds, Summary}
+use Rattle.chunks.specs.Passing.{Covers, MissesEnds}
 use Rattle.chunks.specs.declared.Chunk.{Chunk}
 use Rattle.chunks.specs.declared.Ends.{Ends}
 use Rattle.angles.specs.Angles.{less, more}
@@ -46,7 +46,7 @@ crossed c w g =
     record { at = w.at + 4096; next = w.next; opened = w.opened + c.opened; closed = w.closed + c.closed; groups = g; searches = w.searches }
 
 -- so many brackets stand in it at most
-module _ (s : List ℕ) (at : ℕ) (c : Chunk ℕ) (y : Summary s at c) where
+module _ (s : List ℕ) (at : ℕ) (c : Chunk ℕ) (y : Covers s at c) where
   pub chunk_opened : c.opened ≤ 4096
   chunk_opened = omega (arith, y.passing.opened-is, count_most square_open s at (at + 4096 - at))
 
@@ -106,7 +106,7 @@ module _ (s starts : List ℕ) (w : Walk) (k : Kept s starts w) where
   misses_each (Some e) (inr (inl a)) i p = inr (inl (omega (arith, k.whole i p, (k.between i p).1, a)))
   misses_each (Some e) (inr (inr a)) i p = inr (inr (omega (arith, k.whole i p, (k.between i p).0, a)))
 
-  module _ (c : Chunk ℕ) (y : Summary s w.at c) (d : Missed c w) where
+  module _ (c : Chunk ℕ) (y : Covers s w.at c) (d : Missed c w) where
     module _ (g : Groups) (t : Turns (depth_behind c) w.next (w.at + 4096) w.groups g) where
       goes_on : (i : ℕ) → Pending w.searches.told i → Tracks s starts (crossed c w g) i
       goes_on i p =

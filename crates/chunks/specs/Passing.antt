@@ -37,11 +37,15 @@ abbrev pub LevelsFit : Option (Ends ℕ) → Type 0
 LevelsFit ends = ForSome ends (λ e. (e.low ≤ 65535) × (e.high ≤ 65535))
 
 -- what is told of the chunk at a place
-pub record Summary (s : List ℕ) (at : ℕ) (c : Chunk ℕ) : Type 0 where
+pub record Covers (s : List ℕ) (at : ℕ) (c : Chunk ℕ) : Type 0 where
   pub inside : at + 4096 ≤ length s
   pub passing : PassesBody s at (at + 4096) c
-  pub downs_most : c.downs ≤ 65535
   pub levels : LevelsFit c.ends
+
+-- and the > that close a < from before are at most as many as 16 bits hold
+pub record Summary (s : List ℕ) (at : ℕ) (c : Chunk ℕ) : Type 0 where
+  pub covers : Covers s at c
+  pub downs_most : c.downs ≤ 65535
 
 abbrev pub TellsChunk : List ℕ → (at : ℕ) → Option (Chunk ℕ) → Type 0
 TellsChunk s at (Some c) = Summary s at c

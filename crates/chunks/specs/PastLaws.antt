@@ -6,8 +6,8 @@ use Rattle.source_rules.specs.Brackets.{partner}
 use Rattle.blocks.specs.Blocks.{count_most}
 use Rattle.flat.specs.Body.{Counted}
 use Rattle.flat.specs.declared.Counts.{Counts}
-use Rattle.chunks.specs.Passing.{Misses, PassesBody, PassesRound, Summary, TellsCounts, TellsDepth}
-use Rattle.chunks.specs.Table.{Entry}
+use Rattle.chunks.specs.Passing.{Covers, Misses, PassesBody, PassesRound, TellsCounts, TellsDepth}
+use Rattle.chunks.specs.Table.{Describes}
 use Rattle.chunks.specs.declared.Chunk.{Chunk}
 use Rattle.chunks.specs.declared.Round.{Round}
 use Rattle.chunks.specs.declared.Sums.{Sums}
@@ -23,7 +23,7 @@ round_on s at r depth p o l d c = (
       p (depth + more) (omega (arith, c)) ∙ ap (λ k. partner round_open round_close k (at + 4096) (drop (at + 4096) s)) e,
 )
 
-pub round-further : (s : List ℕ) (at : ℕ) (x : Sums) (depth : ℕ) → Entry s at x → at + 4096 ≤ length s → depth ≤ at → x.round.closed ≤ depth
+pub round-further : (s : List ℕ) (at : ℕ) (x : Sums) (depth : ℕ) → Describes s at x → at + 4096 ≤ length s → depth ≤ at → x.round.closed ≤ depth
     → TellsDepth s at depth (Some (depth - x.round.closed + x.round.opened))
 round-further s at x depth h = round_on s at x.round depth h.round h.opened-most
 
@@ -46,7 +46,7 @@ counted_further n at to h k =
     record { angle_most = omega (arith, k.angle_most, h); opened-most = omega (arith, k.opened-most, h); closed-most = omega (arith, k.closed-most, h) }
 
 -- a search for a body that does not end in a chunk goes on behind it
-pub body_further : (s : List ℕ) (at : ℕ) (c : Chunk ℕ) (n : Counts) → Summary s at c → Counted n at → Misses c n.angle n.opened n.closed
+pub body_further : (s : List ℕ) (at : ℕ) (c : Chunk ℕ) (n : Counts) → Covers s at c → Counted n at → Misses c n.angle n.opened n.closed
     → TellsCounts s at n (Some (counts_past c n))
 body_further s at c n h k m =
     let b = brackets_most s at (at + 4096) c (omega arith) h.passing in (

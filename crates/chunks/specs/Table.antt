@@ -14,26 +14,42 @@ abbrev pub no_sums : Sums
 no_sums = record { round = record { closed = 0; opened = 0 }; body = nothing }
 
 -- what the sums of the chunk at a place tell
-pub record Entry (s : List ℕ) (at : ℕ) (x : Sums) : Type 0 where
+pub record Describes (s : List ℕ) (at : ℕ) (x : Sums) : Type 0 where
   pub round : PassesRound s at (at + 4096) x.round
   pub opened-most : x.round.opened ≤ 4096
   pub body : PassesBody s at (at + 4096) x.body
-  pub downs_most : x.body.downs ≤ 65535
   pub levels : LevelsFit x.body.ends
+
+-- and the > that close a < from before are at most as many as 16 bits hold
+pub record Entry (s : List ℕ) (at : ℕ) (x : Sums) : Type 0 where
+  pub describes : Describes s at x
+  pub downs_most : x.body.downs ≤ 65535
 
 -- where the sums are written, each tells of its chunk
 pub record Summed (s : List ℕ) (t : Table) : Type 0 where
   pub each : t.far ≡ Often → (j : ℕ) → j < 4096 → j * 4096 + 4096 ≤ length s → Entry s (j * 4096) (get_or t.sums j no_sums)
+
+-- the same by `Describes`, which says nothing of the 16 bits
+pub record Described (s : List ℕ) (t : Table) : Type 0 where
+  pub each : t.far ≡ Often → (j : ℕ) → j < 4096 → j * 4096 + 4096 ≤ length s → Describes s (j * 4096) (get_or t.sums j no_sums)
+
+pub described : (s : List ℕ) (t : Table) → Summed s t → Described s t
+described s t h = record { each = λ w j few inside. (h.each w j few inside).describes }
 
 -- what is told of the chunk at a place: its sums
 abbrev pub TellsSums : (s : List ℕ) (at : ℕ) → Option Sums → Type 0
 TellsSums s at (Some x) = (at + 4096 ≤ length s) × Entry s at x
 TellsSums s at None = ℕ
 
--- the sums that are written at its index tell of it
+-- what holds of the sums of each chunk holds of those that are kept for the chunk at a place
+pub told_by : (P : ℕ → Sums → Type 0) (n : ℕ) (t : Table) (at : ℕ) → (t.far ≡ Often → (j : ℕ) → j < 4096 → j * 4096 + 4096 ≤ n → P (j * 4096) (get_or t.sums j no_sums))
+    → t.far ≡ Often → at / 4096 < 4096 → at / 4096 * 4096 ≡ at → at + 4096 ≤ n → P at (get_or t.sums (at / 4096) no_sums)
+told_by P n t at each w few edge inside = subst (λ p. P p (get_or t.sums (at / 4096) no_sums)) edge (each w (at / 4096) few (omega (arith, edge, inside)))
+
+-- so they tell of that chunk
 pub told : (s : List ℕ) (t : Table) (at : ℕ) → Summed s t → t.far ≡ Often → at / 4096 < 4096 → at / 4096 * 4096 ≡ at → at + 4096 ≤ length s
     → Entry s at (get_or t.sums (at / 4096) no_sums)
-told s t at h w few edge inside = subst (λ p. Entry s p (get_or t.sums (at / 4096) no_sums)) edge (h.each w (at / 4096) few (omega (arith, edge, inside)))
+told s t at h = told_by (Entry s) (length s) t at h.each
 
 -- the sums of the first chunks are written
 abbrev pub Written : (s : List ℕ) (xs : List Sums) (many : ℕ) → Type 0

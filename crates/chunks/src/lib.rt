@@ -8,7 +8,7 @@ ghost use Rattle.flat.specs.Body.{Counted};
 ghost use Rattle.chunks.specs.Passing.{LevelsFit, Misses, PassesBody, PassesRound, TellsChunk, TellsCounts, TellsDepth};
 ghost use Rattle.chunks.specs.PastLaws.{counts_past};
 ghost use Rattle.chunks.specs.Sums.{Behind, Within, ends_with};
-ghost use Rattle.chunks.specs.Table.{Summed, TellsSums};
+ghost use Rattle.chunks.specs.Table.{Described, Summed, TellsSums};
 ghost use Rattle.chunks.specs.declared.Far.TheVariants.{Few};
 
 use flat::Counts;
@@ -296,8 +296,9 @@ impl Table {
 
     // Counts a search that goes far. The sums are written once there are many.
     pub fn count_far(&mut self, s: &[u8])
-        requires { Summed s.now self.old }
-        ensures { Summed s.now self.new }
+        requires { Described s.now self.old }
+        ensures described { Described s.now self.new }
+        ensures summed { Summed s.now self.old → Summed s.now self.new }
     {
         match self.far {
             Far::Often => {}
@@ -361,5 +362,41 @@ impl TextSums<'_> {
         } else {
             None
         }
+    }
+}
+
+#[cfg(test)]
+mod tests {
+    use super::{Table, TextSums};
+
+    // Four searches that go far.
+    fn count_four(table: &mut Table, text: &[u8])
+        requires { Summed text.now table.old }
+        ensures { Summed text.now table.new }
+    {
+        table.count_far(text);
+        table.count_far(text);
+        table.count_far(text);
+        table.count_far(text);
+    }
+
+    // Whether the first chunk has sums.
+    fn has_sums(table: &Table, text: &[u8]) -> bool
+        requires { Summed text.now table.now }
+    {
+        TextSums { text, table }.chunk_at(0).is_some()
+    }
+
+    // The sums are written at the sixteenth search that goes far, and not before.
+    #[test]
+    fn counted(rt: HostRuntime) {
+        let text = [b' '; 4096];
+        let mut table = Table::new();
+        count_four(&mut table, &text);
+        count_four(&mut table, &text);
+        count_four(&mut table, &text);
+        assert!(rt; !has_sums(&table, &text));
+        count_four(&mut table, &text);
+        assert!(rt; has_sums(&table, &text));
     }
 }

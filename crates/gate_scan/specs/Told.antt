@@ -17,7 +17,7 @@ use Rattle.gate_rules.proofs.ScanForms.{sources-end, sources-step}
 use Rattle.gate_rules.specs.Tree.{Source, entry_at, file_count, source_at, sources_from, text_in, text_length, text_offset}
 use Rattle.source.specs.State.{State}
 use Rattle.source.specs.declared.Found.{Found}
-use Rattle.source.specs.Cursors.{Yields, remaining, text_fun}
+use Rattle.source.specs.Cursors.{Gives, remaining, text_fun}
 
 -- a file, of which only its number and the place of its text matter to a record
 abbrev pub file_at : (number text_at : ℕ) → Source
@@ -50,7 +50,7 @@ told_is s f number place h =
     let size : length (take f.name_len (drop f.name_at s)) ≡ f.name_len = simp (length-take, length-drop) (omega arith) in
     ap (λ n. number ∷ (place + f.name_at) ∷ n ∷ f.line ∷ f.lines ∷ f.cyclomatic ∷ f.nesting ∷ f.params ∷ []) size
 
-module _ (s : List ℕ) (c : State) (f : Found) (d : State) (y : Yields s c f d) (number place : ℕ) where
+module _ (s : List ℕ) (c : State) (f : Found) (d : State) (y : Gives s c f d) (number place : ℕ) where
   -- and they are below 2^32
   pub small : number < 1024 → place + length s ≤ 16777216 → Small number place f
   unfolding text_fun

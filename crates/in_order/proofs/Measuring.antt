@@ -15,7 +15,7 @@ use Rattle.functions.specs.declared.Functions.{Functions}
 use Rattle.baseline.specs.Ordered.{Unfalling, fallen, keys-end, keys_in, one_key}
 use Rattle.baseline.specs.Reads.{key_text}
 use Rattle.key_lines.specs.Keys.{is_plain, text_of}
-use Rattle.key_lines.specs.Meets.{OfLine}
+use Rattle.key_lines.specs.Meets.{InLine}
 use Rattle.listed_keys.specs.KeyLines.{Sizes, bytes_step, count-step, key_lines, none_bytes}
 use Rattle.listed_keys.specs.Wholes.{at-here, note_keys, plain-count}
 use Rattle.listing.specs.declared.Size.{Size}
@@ -24,7 +24,7 @@ use Rattle.in_order.specs.Passing.{come_all, come_end, come_line, come_small, to
 use Rattle.in_order.specs.Rise.{Risen, risen_end, risen_next, risen_start}
 use Rattle.in_order.specs.Runs.{Passed, Passes}
 use Rattle.in_order.specs.StaleKeys.{stale_in}
-use Rattle.in_order.specs.Walks.{Starts, Steps}
+use Rattle.in_order.specs.Walks.{Advances, Starts}
 use Rattle.in_order.specs.Whole.{PlainTo, Whole, in_order-all, plain-next}
 use Rattle.in_order.specs.declared.walk.Step.{Step}
 use Rattle.in_order.specs.declared.walk.Walk.{Walk}
@@ -56,7 +56,7 @@ module _ (tree s : List ℕ) where
         plain = λ e. (λ i b k. absurd (omega (arith, k, h.from-is)), omega (arith, ap (λ (n : ℕ). length (keys_in (drop n s))) h.from-is));
       }
 
-  module _ (w mid new : Walk) (whole : Bool) (size mine run : Size) (step : Step) (m : Measured w whole size) (h : Steps w step mid)
+  module _ (w mid new : Walk) (whole : Bool) (size mine run : Size) (step : Step) (m : Measured w whole size) (h : Advances w step mid)
       (a : mine.count ≡ length (one_key (key_text step.added))) (b : mine.bytes ≡ length (key_lines (one_key (key_text step.added)))) where
     abbrev added : List (List ℕ)
     added = one_key (key_text step.added)
@@ -64,8 +64,8 @@ module _ (tree s : List ℕ) where
     abbrev end : ℕ
     end = w.from + bytes_before 10 (drop w.from s)
 
-    line : OfLine s w.from step.found
-    line = subst (λ t. OfLine t w.from step.found) m.lines-is h.line
+    line : InLine s w.from step.found
+    line = subst (λ t. InLine t w.from step.found) m.lines-is h.line
 
     mid-from : mid.from ≡ end + 1
     mid-from = h.from-is ∙ line.ends

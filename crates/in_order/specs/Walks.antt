@@ -1,6 +1,7 @@
 -- A walk over the lines of a baseline, and its steps.
 use Rattle.std.specs.Prelude.{ℕ, Option, Some, None, ◌+◌, ◌≤◌, ◌<◌, ◌≡◌, refl, List, [], ◌∷◌, ◌++◌, length, drop, map}
 use Rattle.std.specs.Borrow.{Bor}
+use Rattle.std.specs.Option.{ForSome}
 use Rattle.std.proofs.Common.{ap, ap₂, sym, ◌∙◌}
 use Rattle.std.proofs.Math.Option.{some}
 use Rattle.text_rules.specs.Search.{bytes_before, part}
@@ -12,7 +13,7 @@ use Rattle.baseline.specs.Ordered.{Unfalling, keys_in, one_key}
 use Rattle.baseline.specs.Reads.{key_text}
 use Rattle.baseline.specs.declared.Bounds.{Bounds}
 use Rattle.key_lines.specs.Keys.{text_of}
-use Rattle.key_lines.specs.Meets.{OfLine}
+use Rattle.key_lines.specs.Meets.{InLine, Stands}
 use Rattle.key_lines.specs.Next.{Follows}
 use Rattle.key_lines.specs.declared.found.Found.{Found}
 use Rattle.key_lines.specs.declared.key.Key.{Key}
@@ -73,15 +74,20 @@ pub record Followed (old : Walk) (l : Bounds) (new : Walk) : Type 0 where
   pub last-is : text_of new.last ≡ some (part old.from l.name old.lines.now)
 
 -- a step: what is found in the line where the walk stands, and the key that it adds
-pub record Steps (old : Walk) (step : Step) (new : Walk) : Type 0 where
+pub record Advances (old : Walk) (step : Step) (new : Walk) : Type 0 where
   pub same : Same old new
   pub begins : step.from ≡ old.from
   pub there : old.from < length old.lines.now
-  pub line : OfLine old.lines.now old.from step.found
+  pub line : InLine old.lines.now old.from step.found
   pub before : step.found.last ≡ old.last
   pub adds : one_key (key_text step.added) ≡ added_by (map key (functions_of gate old.functions.tree.now)) (text_of old.last) (text_of step.found.key)
   pub from-is : new.from ≡ step.found.next
   pub last-is : text_of new.last ≡ last_after (text_of old.last) (text_of step.found.key)
+
+-- and its key stands there
+pub record Steps (old : Walk) (step : Step) (new : Walk) : Type 0 where
+  pub advances : Advances old step new
+  pub stands : ForSome step.found.key (λ k. Stands old.lines.now old.from k.bytes.now)
 
 abbrev pub WalkGives : Walk → Option Step → Walk → Type 0
 WalkGives old (Some step) new = Steps old step new
@@ -93,7 +99,7 @@ come-same old new h =
     ap₂ (λ (f : Functions) (s : Bor (List ℕ)). to_come f.tree.now s.now (text_of new.last) new.from) (sym h.functions-is) (sym h.lines-is)
 
 -- what a line adds, and what those behind it add
-pub walk-step : (old : Walk) (step : Step) (new : Walk) → Steps old step new → come_of old ≡ one_key (key_text step.added) ++ come_of new
+pub walk-step : (old : Walk) (step : Step) (new : Walk) → Advances old step new → come_of old ≡ one_key (key_text step.added) ++ come_of new
 walk-step old step new h =
     let tree = old.functions.tree.now in
     let s = old.lines.now in
@@ -109,12 +115,12 @@ come_start functions lines w h u =
     ∙ come_all functions.tree.now lines.now u
 
 -- the lines of the keys: that of the key which a step adds, and those still to come
-pub step-lines : (old : Walk) (step : Step) (new : Walk) → Steps old step new → (k : Bor (List ℕ)) → step.added ≡ Some k
+pub step-lines : (old : Walk) (step : Step) (new : Walk) → Advances old step new → (k : Bor (List ℕ)) → step.added ≡ Some k
     → key_lines (come_of old) ≡ key_lines (k.now ∷ []) ++ key_lines (come_of new)
 step-lines old step new h k e =
     ap key_lines (walk-step old step new h ∙ ap (λ o. one_key (key_text o) ++ come_of new) e) ∙ lines-append (k.now ∷ []) (come_of new)
 
-pub step-none : (old : Walk) (step : Step) (new : Walk) → Steps old step new → step.added ≡ None → come_of old ≡ come_of new
+pub step-none : (old : Walk) (step : Step) (new : Walk) → Advances old step new → step.added ≡ None → come_of old ≡ come_of new
 step-none old step new h e = walk-step old step new h ∙ ap (λ o. one_key (key_text o) ++ come_of new) e
 
 -- no line is left

@@ -20,12 +20,16 @@ pub record PlainAt (s : List ℕ) (from : ℕ) : Type 0 where
 abbrev pub Stands : (s : List ℕ) → (from : ℕ) → (key : List ℕ) → Type 0
 Stands s from k = (from + length k ≤ length s) × (part from (from + length k) s ≡ k)
 
--- it is found in the line that begins at a place, and its key stands there
-pub record OfLine (lines : List ℕ) (from : ℕ) (here : Found) : Type 0 where
+-- it is found in the line that begins at a place
+pub record InLine (lines : List ℕ) (from : ℕ) (here : Found) : Type 0 where
   pub ends : here.next ≡ from + bytes_before 10 (drop from lines) + 1
   pub inside : here.next ≤ length lines + 1
   pub key-is : text_of here.key ≡ key_of_entry (entry_of (line_at lines from (from + bytes_before 10 (drop from lines))))
   pub plain_at : is_plain here.key ≡ true → PlainAt lines from
+
+-- and its key stands there
+pub record OfLine (lines : List ℕ) (from : ℕ) (here : Found) : Type 0 where
+  pub in_line : InLine lines from here
   pub stands : ForSome here.key (λ k. Stands lines from k.bytes.now)
 
 pub part_length : (s : List ℕ) (a b : ℕ) → (a ≤ b) × (b ≤ length s) → length (part a b s) ≡ b - a

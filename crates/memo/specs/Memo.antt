@@ -1,10 +1,11 @@
 -- Searches for a body that are kept by what they have counted at one place, with what they find.
-use Rattle.std.specs.Prelude.{ℕ, ◌+◌, ◌-◌, ◌≤◌, ◌<◌, ◌≡◌, ◌≢◌, ◌⊎◌, Bool, true, false, List, eqb, get_or, Option as Possible, Some, None, MatchOption, length, take, drop, set, min, max}
+use Rattle.std.specs.Prelude.{ℕ, ◌+◌, ◌-◌, ◌≤◌, ◌<◌, ◌≡◌, ◌≢◌, ◌⊎◌, ◌++◌, Bool, true, false, List, eqb, leb, get_or, Option as Possible, Some, None, MatchOption, length, take, drop, set, replicate, min, max, if◌then◌else◌}
 use Rattle.std.specs.List.{All}
-use Rattle.std.proofs.Common.{ap, subst, sym, refl, inl, inr, ◌∙◌, arith, eqb-true, get_or-set_other, get_or-set_same, length-set}
+use Rattle.std.proofs.Common.{ap, subst, sym, refl, inl, inr, ◌∙◌, arith, eqb-true, leb-true, get_or-set_other, get_or-set_same, length-append, length-set}
 use Rattle.std.proofs.Math.Option.{Option, none, some}
 use Rattle.std.proofs.lemmas.Bool.{eqb-false}
-use Rattle.std.proofs.lemmas.List.{get_or-take, length-take}
+use Rattle.std.proofs.lemmas.List.{get_or-take, get_or_append_left, length-take}
+use Rattle.std.proofs.lemmas.List.Elements.{All-append, All-replicate}
 use Rattle.text_rules.specs.Classes.{square_close, square_open}
 use Rattle.source_rules.specs.Finding.{body_at}
 use Rattle.blocks.specs.Blocks.{count_most}
@@ -49,6 +50,25 @@ Entry s at x = MatchOption x (Unit {0}) (Holds s at)
 -- the searches that are kept: those at the first indices
 abbrev pub searches_of : Kept → List (Possible Search)
 searches_of f = take (min f.used 64) f.searches
+
+-- what is kept at each of the 64 indices: nothing behind the first ones
+abbrev pub slots_of : Kept → List (Possible Search)
+slots_of f = searches_of f ++ replicate (64 - min f.used 64) None
+
+-- where each is none, none is kept
+pub all_nothing : (n : ℕ) → All {X = Possible Search} (λ x. x ≡ None) (replicate n None)
+all_nothing n = All-replicate (λ x. x ≡ None) n None refl
+
+-- what holds of each search that is kept, and of `None`, holds at each index; and what holds at each index holds of each search
+module _ (P : Possible Search → Type 0) (f : Kept) where
+  pub each_slot : P None → All P (searches_of f) → All P (slots_of f)
+  each_slot p a = All-append P (searches_of f) (replicate (64 - min f.used 64) None) a (All-replicate P (64 - min f.used 64) None p)
+
+  pub each_search : All P (slots_of f) → All P (searches_of f)
+  each_search a k d l =
+      let rest : List (Possible Search) = replicate (64 - min f.used 64) None in
+      let m : k < length (searches_of f ++ rest) = omega (arith, l, length-append (searches_of f) rest) in
+      subst P (get_or_append_left (searches_of f) rest d k l) (a k d m)
 
 -- each search that is kept finds what is kept of it
 pub record Recalls (s : List ℕ) (f : Kept) : Type 0 where
@@ -103,12 +123,27 @@ all_put P n m i xs y other p a k d l =
           (subst P (get_or-take n xs k d was) (a k d (omega (arith, was, inside, length-take n xs))))
     ])
 
--- it is put at an index, of which those before are used
-pub keeps-there : (s : List ℕ) (f g : Kept) (i : ℕ) (x : Search) → i ≤ f.used → g.at ≡ f.at → g.used ≡ max f.used (i + 1) → g.searches ≡ set f.searches i (Some x)
+-- it is put at an index, and no other index is used that was not
+pub keeps_put : (s : List ℕ) (f g : Kept) (i : ℕ) (x : Search) → ((k : ℕ) → k < g.used → k ≢ i → k < f.used) → g.at ≡ f.at → g.searches ≡ set f.searches i (Some x)
     → Recalls s f → Holds s f.at x → Recalls s g
-keeps-there s f g i x l e u w r h =
-    let put = all_put (Entry s f.at) (min f.used 64) (min g.used 64) i f.searches (Some x) (λ k a b. omega (arith, a, b, l, u)) h r.each in
+keeps_put s f g i x other e w r h =
+    let put = all_put (Entry s f.at) (min f.used 64) (min g.used 64) i f.searches (Some x) (λ k a b. omega (arith, a, other k (omega (arith, a)) b)) h r.each in
     record { inside = omega (arith, e, r.inside); each = subst (λ j. All (Entry s j) (searches_of g)) (sym e) (subst (λ xs. All (Entry s f.at) (take (min g.used 64) xs)) (sym w) put) }
+
+used_before : (b : Bool) (i used : ℕ) → (b ≡ true → i ≤ used) → (k : ℕ) → k < (if b then max used (i + 1) else used) → k ≢ i → k < used
+used_before true i used h k l n = let m : i ≤ used = h refl in omega (arith, l, m, n)
+used_before false i used h k l n = l
+
+-- it is put at any index. One behind the next unused index is not used by that
+pub keeps-there : (s : List ℕ) (f : Kept) (i turn end : ℕ) (x : Search) → Recalls s f → Holds s f.at x
+    → Recalls s (record { at = f.at; turn = turn; end = end; used = if leb i f.used then max f.used (i + 1) else f.used; searches = set f.searches i (Some x) })
+keeps-there s f i turn end x r h =
+    keeps_put s f _ i x (used_before (leb i f.used) i f.used (leb-true i f.used)) refl refl r h
+
+-- it is put at an index, of which those before are used
+pub keeps_used : (s : List ℕ) (f g : Kept) (i : ℕ) (x : Search) → i ≤ f.used → g.at ≡ f.at → g.used ≡ max f.used (i + 1) → g.searches ≡ set f.searches i (Some x)
+    → Recalls s f → Holds s f.at x → Recalls s g
+keeps_used s f g i x l e u = keeps_put s f g i x (λ k a b. omega (arith, a, b, l, u)) e
 
 -- a search with the same depths finds the same
 pub same_finds : (s : List ℕ) (at : ℕ) (x : Search) (n : Counts) → Holds s at x → x.counts.angle ≡ n.angle → x.counts.opened + n.closed ≡ n.opened + x.counts.closed

@@ -2,7 +2,8 @@
 // same depths finds the same, and is not made again.
 #![tactic(auto)]
 
-ghost use Rattle.std.specs.Prelude.{◌≡◌, true, ℕ, ◌+◌, ◌≤◌, ◌<◌, List, Option, length, MatchOption};
+ghost use Rattle.std.specs.Prelude.{◌≡◌, true, ℕ, ◌+◌, ◌≤◌, ◌<◌, List, Option, None, length, MatchOption};
+ghost use Rattle.std.specs.List.{All};
 ghost use Rattle.flat.specs.Body.{Counted, Reaches, body_from};
 ghost use Rattle.chunks.specs.Passing.{LevelsFit, PassesBody};
 ghost use Rattle.memo.specs.Memo.{AllCounted, Entry, Forgotten, Holds, Keeps, Known, Recalls, TellsPast};
@@ -122,9 +123,10 @@ pub struct Kept {
 }
 
 impl Kept {
-    // No search is kept.
+    // No search is kept, and none stands at any index.
     pub fn new() -> Kept
-        ensures { Forgotten 0 result }
+        ensures forgotten { Forgotten 0 result }
+        ensures empty { All (λ x. x ≡ None) result.searches }
     {
         Kept {
             at: 0,
@@ -262,3 +264,30 @@ const STEP: usize = 64;
 
 // The most bytes that a search reads up to the place that is kept.
 const REACH: usize = 512;
+
+#[cfg(test)]
+mod tests {
+    use super::Kept;
+    use chunks::{Table, TextSums};
+    use flat::Counts;
+
+    // Nothing is found where no search is kept: at the beginning, and once all are forgotten.
+    #[test]
+    fn none_kept(rt: HostRuntime) {
+        let table = Table::new();
+        let text = TextSums {
+            text: b"x { }",
+            table: &table,
+        };
+        let n = Counts {
+            angle: 0,
+            opened: 0,
+            closed: 0,
+        };
+        let mut kept = Kept::new();
+        assert!(rt; kept.recall(text, 0, n).is_none());
+        kept.keep(n, Some(2), 5);
+        kept.forget(3);
+        assert!(rt; kept.recall(text, 3, n).is_none());
+    }
+}

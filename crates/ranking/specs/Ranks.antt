@@ -1,5 +1,5 @@
 -- The orders of the listings, and the laws of the tournament at the functions of a tree.
-use Rattle.std.specs.Prelude.{ℕ, ◌≤◌, ◌<◌, ◌≡◌, ◌≢◌, Bool, not, ◌&&◌, ◌||◌, Option, Some, None, List, [], ◌∷◌, length, get_or}
+use Rattle.std.specs.Prelude.{ℕ, ◌+◌, ◌≤◌, ◌<◌, ◌≡◌, ◌≢◌, Bool, not, ◌&&◌, ◌||◌, Option, Some, None, List, [], ◌∷◌, length, get_or}
 use Rattle.text_rules.specs.ByteOrder.{Orders}
 use Rattle.text_rules.specs.Selection.{placed_from}
 use Rattle.gate_rules.specs.Functions.{Fun, Limits, over}
@@ -60,6 +60,10 @@ abbrev pub number_of : Standing → Option ℕ → ℕ
 number_of s (Some k) = k
 number_of s None = length s.all
 
+-- where it stands with one more taken
+abbrev pub one_more : Standing → Standing
+one_more s = record s { taken = s.taken + 1 }
+
 module _ (less : Fun → Fun → Bool) (orders : Orders less) where
   -- those that are still to take, in the order
   abbrev pub to_take : Standing → List Fun
@@ -77,7 +81,8 @@ module _ (less : Fun → Fun → Bool) (orders : Orders less) where
     pub chosen : (last : ℕ) → LastTaken old last → Chosen less orders no_fun old.all (over old.limits) last (placed_from 0 old.all) r
     pub ranked : r ≢ length old.all → LastTaken new r
 
-  -- the function with the number was the first of those still to take, and the others are left; where none was, none is
+  -- the function with the number was the first of those still to take, and the others are left; where none was, none is. Of the ranking nothing else
+  -- changes but that one more is taken.
   abbrev pub Takes : Standing → Option ℕ → Standing → Type 0
-  Takes old (Some k) new = (k < length old.all) × (to_take old ≡ get_or old.all k no_fun ∷ to_take new)
-  Takes old None new = (to_take old ≡ []) × (to_take new ≡ [])
+  Takes old (Some k) new = (k < length old.all) × (to_take old ≡ get_or old.all k no_fun ∷ to_take new) × (new ≡ one_more old)
+  Takes old None new = (to_take old ≡ []) × (to_take new ≡ []) × (new ≡ old)

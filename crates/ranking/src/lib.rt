@@ -30,10 +30,13 @@ pub trait Rank {
     fn first(&self, f: Function, g: Function, earlier: bool) -> bool
         ensures { result ≡ decided less (shown f.entry) (shown g.entry) earlier };
 
-    // The same for two functions with one path, which needs no look at it.
+    // The same for two functions with one path, which needs no look at it. An order that gains nothing by that leaves this to `first`.
     fn first_of_one_path(&self, f: Function, g: Function, earlier: bool) -> bool
         requires { f.path.now ≡ g.path.now }
-        ensures { result ≡ decided less (shown f.entry) (shown g.entry) earlier };
+        ensures { result ≡ decided less (shown f.entry) (shown g.entry) earlier }
+    {
+        self.first(f, g, earlier)
+    }
 }
 
 // Whether two functions have the same path.
@@ -300,5 +303,47 @@ impl<'a, R: Rank + Drop> Iterator for Ranking<'a, R> {
     fn next(&mut self) -> Option<Function<'a>> {
         let number = self.next_number()?;
         Some(self.tournament.functions.get(number))
+    }
+}
+
+#[cfg(test)]
+mod tests {
+    use super::{ByKey, Rank};
+    use functions::Function;
+
+    // An order that has `first` alone.
+    #[derive(Clone, Copy)]
+    struct Plain;
+
+    impl Rank for Plain {
+        ghost use Rattle.gate_rules.specs.Update.{row_before};
+        ghost use Rattle.gate_rules.proofs.RowOrders.{row_orders};
+
+        ghost less = { row_before };
+
+        ghost orders = { row_orders };
+
+        fn first(&self, f: Function, g: Function, earlier: bool) -> bool {
+            ByKey.first(f, g, earlier)
+        }
+    }
+
+    // Such an order puts two functions with one path as it puts any two.
+    #[test]
+    fn first_alone(rt: HostRuntime) {
+        let f = Function {
+            path: b"a.rs",
+            name: b"one",
+            line: 1,
+            lines: 1,
+            cyclomatic: 1,
+            nesting: 0,
+            params: 0,
+        };
+        let g = Function { name: b"two", ..f };
+        assert!(rt; Plain.first_of_one_path(f, g, false));
+        assert!(rt; !Plain.first_of_one_path(g, f, true));
+        assert!(rt; Plain.first_of_one_path(f, f, true));
+        assert!(rt; !Plain.first_of_one_path(f, f, false));
     }
 }

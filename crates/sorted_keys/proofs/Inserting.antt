@@ -3,13 +3,13 @@ use Rattle.std.specs.List.{refill}
 use Rattle.std.proofs.Math.Seq.{take-append_seam}
 use Rattle.std.proofs.lemmas.List.{append_assoc, drop-drop, length-append, length-drop, take-append-drop}
 use Rattle.std.proofs.lemmas.Slice.{drop-put_mid, take-put_mid}
-use Rattle.std.proofs.Common.{◌++◌, ◌∷◌, drop, drop_of_length-le, ℕ, zero, ◌&&◌, ◌+◌, ◌≤◌, ◌<◌, ◌≡◌, ap, ap₂, subst, sym, ◌∙◌, true, false, suc, inl, inr, ltb, ltb-true, ltb-false, List, [], length, length-take, take, take_all, get_or, arith}
+use Rattle.std.proofs.Common.{◌++◌, ◌∷◌, drop, drop_of_length-le, ℕ, zero, ◌&&◌, ◌+◌, ◌≤◌, ◌<◌, ◌≡◌, ◌≢◌, eqb, ap, ap₂, subst, sym, ◌∙◌, true, false, suc, inl, inr, ltb, ltb-true, ltb-false, List, [], length, length-take, take, take_all, get_or, arith}
 use Rattle.text_rules.specs.Bytes.{All, before, same}
-use borrow.Author.Tests.{lt-ltb}
+use borrow.Author.Tests.{eq-eqb, lt-ltb, ne_eqb}
 use Rattle.text_rules.specs.BytesLaws.{and_left, and_right, whether}
 use Rattle.text_rules.specs.Selection.{Rising}
 use Rattle.sorted_keys.specs.Held.{Held, Lies, bytes_at, keys_at, map-length, put-inside, put-keys, take-rising}
-use Rattle.sorted_keys.specs.Insert.{insert, insert-last, insert_new, insert-rising, insert-there, insert_at, place-few, place-most, place-past, place_of}
+use Rattle.sorted_keys.specs.Insert.{insert, insert-last, insert_new, insert-rising, insert-there, insert_at, place-few, place-most, place-past, place_of, put_place}
 use Rattle.sorted_keys.specs.declared.Place.{Place}
 
 module _ (ks : List (List ℕ)) (rise : Rising before ks) (b : List ℕ) where
@@ -51,6 +51,20 @@ module _ (ks : List (List ℕ)) (most : length ks ≤ 8192) (b : List ℕ) (at :
       let l : at < length ks = omega (arith, place, i) in
       ap (λ j. same (get_or ks j []) b) (sym place) ∙ sym (ap (λ t. t && same (get_or ks at []) b) (lt-ltb at (length ks) l)) ∙ e in
       sym (ap (take 8192) (insert_new b ks other ∙ ap (λ i. insert_at i b ks) (sym place)))
+
+-- what becomes of the places, by the same ways
+module _ (ks : List (List ℕ)) (b : List ℕ) (at : ℕ) (place : at ≡ place_of b ks) (p : Place) (ps : List Place) where
+  pub places-behind : at ≡ 8192 → ps ≡ put_place b p ks ps
+  unfolding put_place
+  places-behind e = rw (← place, eq-eqb at 8192 e)
+
+  pub places-there : (ltb at (length ks) && same (get_or ks at []) b) ≡ true → ps ≡ put_place b p ks ps
+  unfolding put_place
+  places-there t = elim (whether (eqb at 8192)) [ inl e ↦ rw (← place, e) | inr e ↦ rw (← place, e, t) ]
+
+  pub places-put : at ≢ 8192 → (ltb at (length ks) && same (get_or ks at []) b) ≡ false → take 8192 (insert_at at p ps) ≡ put_place b p ks ps
+  unfolding put_place
+  places-put n t = rw (← place, ne_eqb at 8192 n, t)
 
 -- a place put in, where `ks` are the keys that are seen
 module _ (s : List ℕ) (ps new : List Place) (h : Held s ps) (ks : List (List ℕ)) (seen : keys_at s ps ≡ ks) (b : List ℕ) (at : ℕ) (p : Place) (w : new ≡ take 8192 (insert_at at p ps))

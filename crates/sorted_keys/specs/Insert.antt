@@ -1,16 +1,19 @@
--- A key put into a list of keys that rises, so that the list rises again and holds each key once.
+-- A key put into a list of keys that rises, so that the list rises again and holds each key once, and its place among the places of these.
 use Prim.Native.Nat.{ℕ, zero, suc, ◌+◌, ◌≤◌, ◌<◌}
-use Rattle.std.specs.Prelude.{◌≡◌, true, false, length, take, drop, get_or, set}
+use Rattle.std.specs.Prelude.{◌≡◌, Bool, true, false, ◌&&◌, ◌||◌, eqb, ltb, length, take, drop, get_or, set}
 use Rattle.std.proofs.Math.Path.{refl, ap}
-use Rattle.std.proofs.Common.{sym, subst, ◌∙◌, add-one, take_all, take-take}
+use Rattle.std.proofs.Common.{sym, subst, ◌∙◌, add-one, length-take, take_all, take-take}
+use Rattle.std.proofs.lemmas.Bool.Decides.{eqb_tells}
 use Rattle.std.proofs.Math.Logic.{inl, inr}
 use mathlib.Core.List.Memᴰ
 use mathlib.Core.List.{List, [], ◌∷◌, ◌++◌}
 use native.Mathlib.Omega.{arith}
+use borrow.Author.Tests.{lt-ltb}
 use Rattle.text_rules.specs.ByteOrder.{before_itself, before-total, before_trans}
 use Rattle.text_rules.specs.Bytes.{All, ◌∈◌, if◌then◌otherwise◌, before, same}
 use Rattle.text_rules.specs.BytesLaws.{All-at, All-map, same_refl, same_true, true_false, whether}
 use Rattle.text_rules.specs.Selection.{Rising}
+use Rattle.sorted_keys.specs.declared.Place.{Place}
 
 -- the key at its place, where it does not stand there yet
 unfoldable pub insert : List ℕ → List (List ℕ) → List (List ℕ)
@@ -42,6 +45,23 @@ module _ {A : Type 0} where
   insert-front xs (suc m) zero x h k = absurd (omega arith)
   insert-front [] (suc m) (suc at) x h k = absurd (omega arith)
   insert-front (y ∷ xs) (suc m) (suc at) x h k = ap (λ ys. y ∷ ys) (insert-front xs m at x (omega arith) (omega arith))
+
+  -- among the first ones, the element stands at its place
+  inserted : (xs : List A) (m at : ℕ) (x d : A) → at < m → at ≤ length xs → (at < length (take m (insert_at at x xs))) × (get_or (take m (insert_at at x xs)) at d ≡ x)
+  inserted xs zero at x d h k = absurd (omega arith)
+  inserted xs (suc m) zero x d h k = (omega arith, refl)
+  inserted [] (suc m) (suc at) x d h k = absurd (omega arith)
+  inserted (y ∷ xs) (suc m) (suc at) x d h k = let i = inserted xs m at x d (omega arith) (omega arith) in (omega (arith, i.0), i.1)
+
+-- whether the key stands at its place already
+abbrev pub stands : List ℕ → List (List ℕ) → Bool
+stands k ks = ltb (place_of k ks) (length ks) && same (get_or ks (place_of k ks) []) k
+
+-- the places of the keys, with the place of a key put in at the number of the key. They stay as they are where 8,192 keys stand before it, or it stands
+-- there already
+unfoldable pub put_place : List ℕ → Place → List (List ℕ) → List Place → List Place
+put_place k p ks ps =
+    if eqb (place_of k ks) 8192 || stands k ks then ps otherwise take 8192 (insert_at (place_of k ks) p ps)
 
 other : (j k : List ℕ) → before j k ≡ false → same j k ≡ false → before k j ≡ true
 other j k e d =
@@ -159,6 +179,24 @@ module _ (k : List ℕ) where
       elim (whether (before j k)) [
         | inl d ↦ let n' = rw d at n in rw d (ap (λ is. j ∷ is) (insert_new js (λ h. n' (omega arith))))
         | inr d ↦ let n' = rw d at n in rw (d, n' (omega arith))
+      ]
+
+  -- where the first 8,192 keys stay as they are, their places do
+  pub put_again : (p : Place) (ks : List (List ℕ)) (ps : List Place) → take 8192 (insert k ks) ≡ ks → put_place k p ks ps ≡ ps
+  unfolding put_place
+  put_again p ks ps same-keys =
+      elim (eqb_tells (place_of k ks) 8192) [
+        | inl e ↦ rw e.0
+        | inr e ↦ elim (whether (stands k ks)) [
+          | inl t ↦ rw (e.0, t)
+          | inr t ↦
+              let few : length ks ≤ 8192 = omega (arith, ap length same-keys, length-take 8192 (insert k ks)) in
+              let new = insert_new ks (λ h. ap (λ b. b && same (get_or ks (place_of k ks) []) k) (sym (lt-ltb (place_of k ks) (length ks) h)) ∙ t) in
+              let all : take 8192 (insert_at (place_of k ks) k ks) ≡ ks = ap (take 8192) (sym new) ∙ same-keys in
+              let there = inserted ks 8192 (place_of k ks) k [] (omega (arith, few, e.1, place-few ks)) (place-few ks) in
+              let it : get_or ks (place_of k ks) [] ≡ k = ap (λ js. get_or js (place_of k ks) []) (sym all) ∙ there.1 in
+              absurd (true_false (stands k ks) (rw (lt-ltb (place_of k ks) (length ks) (omega (arith, there.0, ap length all)), it) (same_refl k)) t)
+        ]
       ]
 
   -- behind all keys

@@ -8,7 +8,7 @@ ghost use Rattle.text_rules.specs.Bytes.{before, same};
 ghost use Rattle.text_rules.specs.Search.{part};
 ghost use Rattle.text_rules.specs.Selection.{Rising};
 ghost use Rattle.sorted_keys.specs.Held.{Held, keys_at, no_place};
-ghost use Rattle.sorted_keys.specs.Insert.{insert, insert_at, place_of};
+ghost use Rattle.sorted_keys.specs.Insert.{insert, insert_at, place_of, put_place};
 
 use arrayvec::ArrayVec;
 use baseline::Baseline;
@@ -103,6 +103,7 @@ impl<'a> Keys<'a> {
     pub fn none(baseline: Baseline<'a>) -> Keys<'a>
         ensures lines { result.lines ≡ baseline.entry.lines.now }
         ensures keys { result.keys ≡ [] }
+        ensures places { result.places ≡ [] }
     {
         Keys {
             baseline,
@@ -164,6 +165,8 @@ impl<'a> Keys<'a> {
         requires inside { from + length key.now ≤ length self.old.lines }
         ensures lines { self.new.lines ≡ self.old.lines }
         ensures keys { self.new.keys ≡ take 8192 (insert key.now self.old.keys) }
+        ensures places { self.new.places
+            ≡ put_place key.now (record { from = from; to = from + length key.now }) self.old.keys self.old.places }
     {
         let at = self.place_of(key);
         if at == MOST {
@@ -181,5 +184,27 @@ impl<'a> Keys<'a> {
                 to: to as u32,
             },
         );
+    }
+}
+
+#[cfg(test)]
+mod tests {
+    use super::Keys;
+    use baseline::Baseline;
+
+    // A key that is put in again stays where it stood first, and one that is before it in byte order goes in front.
+    #[test]
+    fn put_in_again(rt: HostRuntime) {
+        let mut keys = Keys::none(Baseline {
+            lines: b"key key a",
+        });
+        keys.insert(4, b"key");
+        keys.insert(0, b"key");
+        assert_eq!(rt; keys.len(), 1);
+        assert_eq!(rt; keys.span(0), 4..7);
+        keys.insert(8, b"a");
+        assert_eq!(rt; keys.len(), 2);
+        assert_eq!(rt; keys.span(0), 8..9);
+        assert_eq!(rt; keys.span(1), 4..7);
     }
 }

@@ -75,10 +75,9 @@ pub ready_prop : (s : List ℕ) (c : State) → IsProp (Ready s c)
 ready_prop s c = hlevel (props, spanless_prop, barren_prop)
 
 -- a function is found, and the cursor behind it has the others. The function's numbers are at most the text's length
-pub record Yields (s : List ℕ) (c : State) (f : Found) (d : State) : Type 0 where
+pub record Gives (s : List ℕ) (c : State) (f : Found) (d : State) : Type 0 where
   pub yields : remaining s c ≡ text_fun s f ∷ remaining s d
   pub text : d.text ≡ s
-  pub ready : Ready s d
   pub further : c.at < d.at
   pub name-inside : f.name_at + f.name_len ≤ length s
   pub line-most : f.line ≤ length s
@@ -88,11 +87,21 @@ pub record Yields (s : List ℕ) (c : State) (f : Found) (d : State) : Type 0 wh
   pub params-most : f.params ≤ length s
   pub fine : Fine s (text_fun s f)
 
-pub record Passes (s : List ℕ) (c d : State) : Type 0 where
+-- and what holds of a cursor holds of that one
+pub record Yields (s : List ℕ) (c : State) (f : Found) (d : State) : Type 0 where
+  pub gives : Gives s c f d
+  pub ready : Ready s d
+
+-- a byte further a cursor has the same functions
+pub record Skips (s : List ℕ) (c d : State) : Type 0 where
   pub same : remaining s c ≡ remaining s d
   pub text : d.text ≡ s
-  pub ready : Ready s d
   pub further : d.at ≡ c.at + 1
+
+-- and what holds of a cursor holds of that one
+pub record Passes (s : List ℕ) (c d : State) : Type 0 where
+  pub skips : Skips s c d
+  pub ready : Ready s d
 
 -- a cursor at another place
 abbrev pub moved_to : State → ℕ → ℕ → State
@@ -128,6 +137,11 @@ pub record Ended (s : List ℕ) (c d : State) : Type 0 where
 abbrev pub Stepped : List ℕ → State → Option Found → State → Type 0
 Stepped s c (Some f) d = Yields s c f d
 Stepped s c None d = Ended s c d
+
+-- what a turn gives, whatever holds of a cursor
+abbrev pub TurnGives : List ℕ → State → Option Found → State → Type 0
+TurnGives s c (Some f) d = Gives s c f d
+TurnGives s c None d = Skips s c d
 
 abbrev pub Turned : List ℕ → State → Option Found → State → Type 0
 Turned s c (Some f) d = Yields s c f d

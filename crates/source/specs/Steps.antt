@@ -27,7 +27,7 @@ use Rattle.passing.specs.Passing.{Passed}
 use Rattle.passing.specs.declared.Spot.{Spot}
 use Rattle.search.specs.EndLaws.{no_body, no-partner, none-some}
 use Rattle.search.specs.Place.{Absent}
-use Rattle.source.specs.Cursors.{Barren, Calm, Closed, FoundAt, GivenAt, MeasuredAt, Passes, Quieter, Ready, SpanAt, Spanless, Yields, moved_to, remaining, remaining_at, state, text_fun}
+use Rattle.source.specs.Cursors.{Barren, Calm, Closed, FoundAt, GivenAt, Gives, MeasuredAt, Passes, Quieter, Ready, SpanAt, Spanless, Yields, moved_to, remaining, remaining_at, state, text_fun}
 use Rattle.source.specs.declared.text.Brackets.{Brackets}
 use Rattle.source.specs.State.{State}
 use Rattle.source.specs.declared.Found.{Found}
@@ -87,9 +87,9 @@ module _ (s : List ℕ) (c : State) (h : c.at < length s) (d : State) (next : Ne
       (subst (λ at. Remains at d.line c.resume) (sym next.at-is)
       (subst (λ line. Remains (c.at + 1) line c.resume) (sym next.line-is) (step_past s c.at c.line c.span_end c.resume d.span_end h next.span.left n)))
 
-  pub finds : d.text ≡ s → Ready s d → (f : Found) (m : MeasuredAt s c.at c.line f d.resume) → sought (d.span_end - c.at) (c.resume - c.at) (byte_before s c.at) (drop c.at s) ≡ some m.places → Yields s c f d
+  pub finds : d.text ≡ s → (f : Found) (m : MeasuredAt s c.at c.line f d.resume) → sought (d.span_end - c.at) (c.resume - c.at) (byte_before s c.at) (drop c.at s) ≡ some m.places → Gives s c f d
   unfolding remaining text_fun
-  finds same ready f m n =
+  finds same f m n =
       let g = m.fine in
       let line = count_after lf (get_or s c.at 0) c.line in
       record {
@@ -100,7 +100,6 @@ module _ (s : List ℕ) (c : State) (h : c.at < length s) (d : State) (next : Ne
             ∙ ap (λ k. text_fun s f ∷ remaining_at s k d.line d.span_end (c.at + m.places.body_to)) (sym next.at-is)
             ∙ ap (λ k. text_fun s f ∷ remaining_at s d.at d.line d.span_end k) (sym m.end_is);
         text = same;
-        ready = ready;
         further = omega (arith, next.at-is);
         name-inside = m.name-inside;
         line-most = g.line-most;
@@ -110,6 +109,10 @@ module _ (s : List ℕ) (c : State) (h : c.at < length s) (d : State) (next : Ne
         params-most = g.params-most;
         fine = g;
       }
+
+  -- where the cursor behind is ready too
+  pub finds_ready : d.text ≡ s → Ready s d → (f : Found) (m : MeasuredAt s c.at c.line f d.resume) → sought (d.span_end - c.at) (c.resume - c.at) (byte_before s c.at) (drop c.at s) ≡ some m.places → Yields s c f d
+  finds_ready same ready f m n = record { gives = finds same f m n; ready = ready }
 
 -- at any place a search may begin of which nothing was sought in vain
 pub ready_from : (s t : List ℕ) (at line span_end resume : ℕ) → at ≤ length s → 1 ≤ line → line ≤ at + 1 → Ready s (state t at line span_end resume 0 0 0)
@@ -195,7 +198,7 @@ module _ (s : List ℕ) (c : State) (h : c.at < length s) (ready : Ready s c) (d
       }
 
   pub passes_on : d.resume ≡ c.resume → sought (d.span_end - c.at) (c.resume - c.at) (byte_before s c.at) (drop c.at s) ≡ none → Barren s d.barren_from d.barren_to → Passes s c d
-  passes_on e n gone = record { same = passes s c h d next e n; text = text; ready = ready_behind gone; further = next.at-is }
+  passes_on e n gone = record { skips = record { same = passes s c h d next e n; text = text; further = next.at-is }; ready = ready_behind gone }
 
   pub finds_on : d.barren_from ≡ c.barren_from → d.barren_to ≡ c.barren_to → (f : Found) (m : GivenAt s c.at c.line f d.resume)
       → sought (d.span_end - c.at) (c.resume - c.at) (byte_before s c.at) (drop c.at s) ≡ some m.places → Yields s c f d
@@ -205,11 +208,11 @@ module _ (s : List ℕ) (c : State) (h : c.at < length s) (ready : Ready s c) (d
       let i : MeasuredAt s c.at c.line f d.resume =
       record { places = m.places; found = m.found; function_is = m.function_is; end_is = m.end_is; name-inside = m.name-inside; fine = g } in
       let gone : Barren s d.barren_from d.barren_to = subst (λ (n : ℕ). Barren s n d.barren_to) (sym from) (subst (Barren s c.barren_from) (sym to) ready.no_function) in
-      finds s c h d next text (ready_behind gone) f i n
+      finds_ready s c h d next text (ready_behind gone) f i n
 
 pub quiet_on : (s : List ℕ) (c : State) → c.text ≡ s → c.at < length s → Ready s c → Calm s c.span_end c.resume c.at → (line : ℕ) → line ≡ count_after lf (get_or s c.at 0) c.line
     → Passes s c (moved_to c (c.at + 1) line)
-quiet_on s c text h ready calm line e = record { same = quiet s c h ready calm line e; text = text; ready = ready_next s c h ready line e; further = refl }
+quiet_on s c text h ready calm line e = record { skips = record { same = quiet s c h ready calm line e; text = text; further = refl }; ready = ready_next s c h ready line e }
 
 -- the places at which nothing begins: in a span every one, in a body those without #, and anywhere those without # and f
 module _ (s : List ℕ) (span_end resume at : ℕ) where
@@ -275,12 +278,11 @@ module _ (s : List ℕ) (from start span_end resume : ℕ) where
           ]
 
 -- a turn that finds a function finds it for every cursor that has the same functions
-pub yields-later : (s : List ℕ) (b c : State) (f : Found) (d : State) → remaining s c ≡ remaining s b → b.at ≤ c.at → Yields s c f d → Yields s b f d
-yields-later s b c f d e h y =
+pub gives_later : (s : List ℕ) (b c : State) (f : Found) (d : State) → remaining s c ≡ remaining s b → b.at ≤ c.at → Gives s c f d → Gives s b f d
+gives_later s b c f d e h y =
     record {
       yields = sym e ∙ y.yields;
       text = y.text;
-      ready = y.ready;
       further = omega (arith, y.further);
       name-inside = y.name-inside;
       line-most = y.line-most;
@@ -290,6 +292,9 @@ yields-later s b c f d e h y =
       params-most = y.params-most;
       fine = y.fine;
     }
+
+pub yields-later : (s : List ℕ) (b c : State) (f : Found) (d : State) → remaining s c ≡ remaining s b → b.at ≤ c.at → Yields s c f d → Yields s b f d
+yields-later s b c f d e h y = record { gives = gives_later s b c f d e h y.gives; ready = y.ready }
 
 pub remaining-end : (s : List ℕ) (c : State) → length s ≤ c.at → remaining s c ≡ []
 unfolding remaining remaining_at

@@ -4,7 +4,7 @@ use Rattle.gate_rules.specs.RecordForms.{put_record, put_records}
 use Rattle.gate_rules.proofs.RecordLaws.{put_record_length}
 use Rattle.gate_rules.specs.Records.{record_bytes}
 use Rattle.source_rules.proofs.TextScanLaws.{count_fits}
-use Rattle.source.specs.Cursors.{Ended, Yields, remaining}
+use Rattle.source.specs.Cursors.{Ended, Gives, Yields, remaining}
 use Rattle.source.specs.View.{state_of}
 use Rattle.gate_scan.specs.Told.{count_next, records-end, records-next, records_for, told, told-wide}
 use Rattle.gate_scan.proofs.scan_text.Goals as goal
@@ -16,7 +16,7 @@ loop-f-preserved c =
     let f = c.in-Some.f in
     let b = state_of l.f-iterator.now in
     let d = state_of c.next.new.self.now in
-    let y : Yields s b f d = subst (λ t. Yields t b f d) l.invariant.text c.in-Some.ensures.steps in
+    let y : Gives s b f d = (subst (λ t. Yields t b f d) l.invariant.text c.in-Some.ensures.steps).gives in
     let number = c.args.number in
     let place = c.args.place in
     let e = c.put_numbered.ensures ∙ ap (λ r. put_record l.n (record_bytes r) l.lent) c.record_of.ensures in

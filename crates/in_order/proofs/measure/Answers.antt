@@ -12,28 +12,28 @@ use Rattle.in_order.proofs.measure.Goals as goal
 pub plus-requires-clause-count_fits : goal.plus-requires-clause-count_fits
 plus-requires-clause-count_fits c =
     let s = c.args.baseline.lines.now in
-    let fits = step-fits c.args.functions.tree.now s _ c.next.new.self c.next.new.self _ c.loop-step.size c.size.result c.size.result c.in-Some.step c.loop-step.invariant c.in-Some.ensures.steps
+    let fits = step-fits c.args.functions.tree.now s _ c.next.new.self c.next.new.self _ c.loop-step.size c.size.result c.size.result c.in-Some.step c.loop-step.invariant c.in-Some.ensures.steps.advances
     c.size.ensures.count c.size.ensures.bytes c.requires in
     omega (arith, fits, c.args.baseline.short)
 
 pub plus-requires-clause-bytes_fit : goal.plus-requires-clause-bytes_fit
 plus-requires-clause-bytes_fit c =
     let s = c.args.baseline.lines.now in
-    let fits = step-fits c.args.functions.tree.now s _ c.next.new.self c.next.new.self _ c.loop-step.size c.size.result c.size.result c.in-Some.step c.loop-step.invariant c.in-Some.ensures.steps
+    let fits = step-fits c.args.functions.tree.now s _ c.next.new.self c.next.new.self _ c.loop-step.size c.size.result c.size.result c.in-Some.step c.loop-step.invariant c.in-Some.ensures.steps.advances
     c.size.ensures.count c.size.ensures.bytes c.requires in
     omega (arith, fits, c.args.baseline.short)
 
 pub plus-size-requires-clause-count_fits : goal.plus-size-requires-clause-count_fits
 plus-size-requires-clause-count_fits c =
     let s = c.args.baseline.lines.now in
-    let fits = run-fits c.args.functions.tree.now s _ c.next.new.self c.run.new.self _ c.loop-step.size c.size.result c.run.result c.in-Some.step c.loop-step.invariant c.in-Some.ensures.steps
+    let fits = run-fits c.args.functions.tree.now s _ c.next.new.self c.run.new.self _ c.loop-step.size c.size.result c.run.result c.in-Some.step c.loop-step.invariant c.in-Some.ensures.steps.advances
     c.size.ensures.count c.size.ensures.bytes c.run.ensures c.requires in
     omega (arith, fits, c.plus.ensures.count, c.args.baseline.short)
 
 pub plus-size-requires-clause-bytes_fit : goal.plus-size-requires-clause-bytes_fit
 plus-size-requires-clause-bytes_fit c =
     let s = c.args.baseline.lines.now in
-    let fits = run-fits c.args.functions.tree.now s _ c.next.new.self c.run.new.self _ c.loop-step.size c.size.result c.run.result c.in-Some.step c.loop-step.invariant c.in-Some.ensures.steps
+    let fits = run-fits c.args.functions.tree.now s _ c.next.new.self c.run.new.self _ c.loop-step.size c.size.result c.run.result c.in-Some.step c.loop-step.invariant c.in-Some.ensures.steps.advances
     c.size.ensures.count c.size.ensures.bytes c.run.ensures c.requires in
     omega (arith, fits, c.plus.ensures.bytes, c.args.baseline.short)
 
@@ -42,7 +42,7 @@ loop-step-preserved c =
     let s = c.args.baseline.lines.now in
     let now = c.loop-step in
     let step = c.in-Some.step in
-    let h = c.in-Some.ensures.steps in
+    let h = c.in-Some.ensures.steps.advances in
     let up = ap (λ o. fallen (text_of o) (text_of step.found.key)) (sym h.before) ∙ sym c.falls.ensures ∙ c.if-falls.false in
     let stays : c.if-whole.whole ≡ true → (now.whole ≡ true) × (get_or s now.walk.from 0 ≢ 35 → (is_plain step.found.key ≡ true) × (is_some step.added ≡ true)) =
     λ e. elim c.if-whole.branch [

@@ -17,21 +17,21 @@ pub write_key-requires : goal.write_key-requires
 write_key-requires c =
     let now = c.loop-step.step-iterator in
     let next = c.next.new.self in
-    let more = step-lines now c.in-Some.step next c.in-Some.ensures.steps c.in-Some-added.key c.in-Some-added.is in
+    let more = step-lines now c.in-Some.step next c.in-Some.ensures.steps.advances c.in-Some-added.key c.in-Some-added.is in
     remains_room _ (key_lines (come_of next)) c.loop-step.invariant more
 
 pub loop-step-preserved-in-Some-added : goal.loop-step-preserved-in-Some-added
 loop-step-preserved-in-Some-added c =
     let now = c.loop-step.step-iterator in
     let next = c.next.new.self in
-    let more = step-lines now c.in-Some.step next c.in-Some.ensures.steps c.in-Some-added.key c.in-Some-added.is in
+    let more = step-lines now c.in-Some.step next c.in-Some.ensures.steps.advances c.in-Some-added.key c.in-Some-added.is in
     remains_next (key_lines (come_of next)) c.loop-step.invariant more c.write_key.ensures
 
 pub loop-step-preserved : goal.loop-step-preserved
 loop-step-preserved c =
     let a = c.args in
     let whole = key_lines (stale_in a.fs.tree.now a.lines.now) in
-    let same = step-none c.loop-step.step-iterator c.in-Some.step c.next.new.self c.in-Some.ensures.steps c.in_default.is in
+    let same = step-none c.loop-step.step-iterator c.in-Some.step c.next.new.self c.in-Some.ensures.steps.advances c.in_default.is in
     subst (λ ks. Remains (key_lines ks) whole a.w.now c.loop-step.w) same c.loop-step.invariant
 
 pub returns : goal.returns

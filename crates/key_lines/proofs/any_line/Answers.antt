@@ -23,10 +23,13 @@ returns c =
     let end = from + bytes_before 10 (drop from s) in
     let key = c.line_key-key in (
       record {
-        ends = line.ends;
-        inside = line.inside;
-        key-is = key.ensures.0 ∙ ap (λ t. key_of_entry (entry_of t)) line.text;
-        plain_at = λ e. absurd (true_false _ e key.ensures.2);
+        in_line =
+            record {
+              ends = line.ends;
+              inside = line.inside;
+              key-is = key.ensures.0 ∙ ap (λ t. key_of_entry (entry_of t)) line.text;
+              plain_at = λ e. absurd (true_false _ e key.ensures.2);
+            };
         stands = any-stands s c.line_at-line.result.bytes.now from end key.result (omega arith, omega (arith, line.ends, line.inside)) line.text key.ensures.1;
       },
       refl,

@@ -6,7 +6,7 @@ use Rattle.bodies.proofs.Walk.at_chunk.Goals as goal
 
 pub pass-requires-clause-chunk : goal.pass-requires-clause-chunk
 pass-requires-clause-chunk c =
-    let y = c.requires.summary in
+    let y = c.requires.summary.covers in
     (chunk_ups _ _ _ y, chunk_opened _ _ _ y, chunk_closed _ _ _ y)
 
 pub pass-requires-clause-opened : goal.pass-requires-clause-opened
@@ -21,4 +21,4 @@ returns-then-is_missed-clause-kept c =
     let w = with_searches a.self.now c.narrow.new.self in
     let k = kept_narrowed _ _ a.self.now c.requires.kept c.narrow.new.self c.narrow.ensures in
     subst (Kept a.p.now.text.text.now a.p.now.starts.now) (sym c.pass.ensures.crossed)
-    (kept-crossed a.p.now.text.text.now a.p.now.starts.now w k a.c c.requires.summary (c.is_missed.ensures c.if-is_missed.true) c.pass.new.self.groups c.pass.ensures.turns)
+    (kept-crossed a.p.now.text.text.now a.p.now.starts.now w k a.c c.requires.summary.covers (c.is_missed.ensures c.if-is_missed.true) c.pass.new.self.groups c.pass.ensures.turns)

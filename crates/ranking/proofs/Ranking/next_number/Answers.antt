@@ -1,6 +1,6 @@
 -- `ranking::Ranking::next_number` meets its contract: the node 1 holds the next function. Its leaf is emptied, and so only the matches above that are due.
 use Prim.Native.Nat.{◌+◌, ◌/◌}
-use mathlib.Core.Path.{ap, subst, sym, ◌∙◌}
+use mathlib.Core.Path.{ap, refl, subst, sym, ◌∙◌}
 use native.Mathlib.Omega.{arith}
 use lib.ListN.{get_or, length, set}
 use Rattle.std.specs.Prelude.{Some, None, ◌∷◌}
@@ -42,7 +42,7 @@ returns-then-n-first-clause-taken g c =
     let orders = g.R.Rank.orders in
     let r = c.self.inside in
     let none = none_left less orders r c.self.invariant (omega (arith, c.from-first.ensures, c.if-n-first.true)) in
-    subst (λ (s : Standing). Takes less orders s None s) c.self.view_is (none, none)
+    subst (λ (s : Standing). Takes less orders s None s) c.self.view_is (none, none, refl)
 
 pub returns-clause-number : goal.returns-clause-number
 returns-clause-number g c =
@@ -63,4 +63,4 @@ returns-clause-taken g c =
     let n = r.tournament.functions.all in
     let next = take_next less orders r c.self.invariant (omega (arith, c.from-first.ensures, c.if-n-first.false)) in
     subst (λ (s : Standing). Takes less orders s (Some c.from-first.result) new) c.self.view_is
-    (omega (arith, c.if-n-first.false), next ∙ ap (λ k. get_or (all_of r) k no_fun ∷ to_take less orders new) (sym c.from-first.ensures))
+    (omega (arith, c.if-n-first.false), next ∙ ap (λ k. get_or (all_of r) k no_fun ∷ to_take less orders new) (sym c.from-first.ensures), refl)
